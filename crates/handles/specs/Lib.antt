@@ -1,0 +1,3 @@
+pub mod Handles
+pub mod Slots
+pub mod WellFormed

@@ -1,0 +1,72 @@
+// A handle names a slot by its index, and one life of that slot by a generation.
+ghost use mathlib.Core.Path.{_≡_};
+ghost use Rattle.handles.specs.Handles.{isValid, sameHandle, handleLt, sameOptional, holdsHandle};
+
+pub struct GenerationalHandle {
+    pub index: u32,
+    pub generation: u32,
+}
+
+impl GenerationalHandle {
+    // The handle of no slot.
+    pub const INVALID: Self = Self {
+        index: 4294967295,
+        generation: 0,
+    };
+
+    // Whether some slot could have issued the handle.
+    pub fn is_valid(self) -> bool
+        ensures { λ r. ⌜ r ≡ isValid self ⌝ }
+    {
+        if self.generation == 0 {
+            return false;
+        }
+        self.index != 4294967295
+    }
+}
+
+pub fn same_handle(a: GenerationalHandle, b: GenerationalHandle) -> bool
+    ensures { λ r. ⌜ r ≡ sameHandle a b ⌝ }
+{
+    if a.index == b.index {
+        return a.generation == b.generation;
+    }
+    false
+}
+
+// By index, then by generation.
+pub fn handle_lt(a: GenerationalHandle, b: GenerationalHandle) -> bool
+    ensures { λ r. ⌜ r ≡ handleLt a b ⌝ }
+{
+    if a.index == b.index {
+        return a.generation < b.generation;
+    }
+    a.index < b.index
+}
+
+pub enum OptionalHandle {
+    None,
+    Some(GenerationalHandle),
+}
+
+// Whether the optional handle is this very handle.
+pub fn holds(o: OptionalHandle, h: GenerationalHandle) -> bool
+    ensures { λ r. ⌜ r ≡ holdsHandle o h ⌝ }
+{
+    match o {
+        OptionalHandle::None => false,
+        OptionalHandle::Some(g) => same_handle(g, h),
+    }
+}
+
+pub fn same_optional(a: OptionalHandle, b: OptionalHandle) -> bool
+    ensures { λ r. ⌜ r ≡ sameOptional a b ⌝ }
+{
+    match b {
+        OptionalHandle::None => match a {
+            OptionalHandle::None => true,
+            OptionalHandle::Some(_) => false,
+        },
+        OptionalHandle::Some(h) => holds(a, h),
+    }
+}

@@ -1,0 +1,36 @@
+-- A stored table of presses has 128 places: read off what its type owns.
+use Prim.Native.Nat.{_≤_}
+use mathlib.Core.Path.{_≡_, refl, sym, _∙_}
+use mathlib.Core.Bool.{true, false}
+use mathlib.Core.Option.{Option, none, some}
+use mathlib.Core.List.{List}
+use lib.ListN.{length, length-map}
+use mir.Val.{Val}
+use denote.Laws.{Is}
+use denote.Struct.Laws as LL
+use Rattle.lists.specs.Tables.{entriesOf}
+use Rattle.lists.proofs.ListLaws.{clash}
+use Rattle.lists.proofs.TableLaws as table
+use Rattle.handles.specs.declared.handle.GenerationalHandle.{GenerationalHandle}
+use Rattle.handles.specs.declared.handle.OptionalHandle.the-variants.{None, Some}
+use Rattle.maps.specs.declared.bindings.Binding.{Binding}
+use Rattle.maps.specs.declared.bindings.Bindings.{Bindings}
+use Rattle.maps.specs.MapTables.{isSome}
+use Rattle.maps.specs.Bindings.{bindings, surfaceOf}
+use Rattle.maps.proofs.bindings.Bindings as T
+use Rattle.maps.proofs.bindings.Bindings.Laws as T′
+
+pub long : (t : Bindings) {vs : List Val} → Is T.the-row t vs → length (t .entries) ≡ 128
+long t {vs} p = sym (length-map (t .entries) _) ∙ LL.owed T.the-type T′.the-laws t vs p .0 .1 .0 .1
+
+pub few : (t : Bindings) {vs : List Val} → Is T.the-row t vs → length (entriesOf bindings t) ≤ 128
+few t p = table.few bindings t (long t p)
+
+-- an entry was found exactly if its panel was
+pub some-found : (o : Option Binding) (h : GenerationalHandle) → surfaceOf o ≡ Some h → isSome o ≡ true
+some-found (some e) h q = refl
+some-found none h q = let z : true ≡ false = cc in clash (sym z) refl
+
+pub none-found : (o : Option Binding) → surfaceOf o ≡ None → isSome o ≡ false
+none-found none q = refl
+none-found (some e) q = let z : true ≡ false = cc in z

@@ -1,0 +1,5 @@
+pub mod MapTableLaws
+pub mod CaptureLaws
+pub mod SequenceLaws
+pub mod BindingLaws
+pub mod ClaimLaws
