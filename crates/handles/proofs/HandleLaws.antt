@@ -1,8 +1,7 @@
 -- The order of handles is a strict order, as that of pairs is, and the test of two handles tells whether they are equal.
 use Prim.Native.Nat.{ℕ}
 use mathlib.Core.Path.{_≡_, ap}
-use mathlib.Core.Bool.{Bool, true, false}
-use Rattle.lists.specs.Orders.{Ordered, pairLt, pairSame}
+use Rattle.lists.specs.Orders.{Ordered}
 use Rattle.lists.proofs.OrderLaws.{pair, through}
 use Rattle.handles.specs.declared.handle.GenerationalHandle.{GenerationalHandle}
 use Rattle.handles.specs.Handles.{handleOf, handleKey, sameHandle, handleLt}

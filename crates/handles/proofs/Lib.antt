@@ -1,5 +1,13 @@
 pub mod HandleLaws
 pub mod RoomLaws
-pub mod LiveLaws
-pub mod FreeLaws
+pub mod SlotLaws
+pub mod LookupLaws
+pub mod OccurrenceLaws
 pub mod SoundLaws
+pub mod LiveLaws
+pub mod ListedLaws
+pub mod AllocateFreedLaws
+pub mod AllocateUnusedLaws
+pub mod ReleaseLaws
+pub mod StaleLaws
+pub mod ClaimLaws

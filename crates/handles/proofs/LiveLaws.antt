@@ -1,7 +1,7 @@
 -- The handles of the filled slots, one slot after the other: what a turn of the loop adds, and that each slot adds at most one.
 use Prim.Native.Nat.{ℕ, zero, suc, _+_, _≤_, _<_}
-use mathlib.Core.Path.{_≡_, refl, sym, ap, _∙_}
-use mathlib.Core.Bool.{Bool, true, false, cond}
+use mathlib.Core.Path.{_≡_, sym, ap, _∙_}
+use mathlib.Core.Bool.{true, false}
 use mathlib.Core.List.{List, [], _∷_, _++_, append-nil}
 use native.Mathlib.Numerals.{add-one}
 use native.Mathlib.Omega.{arith}
@@ -11,10 +11,11 @@ use borrow.Author.Tests.{ltb-true}
 use Rattle.lists.specs.Tables.{packed, pushed}
 use Rattle.lists.proofs.ListLaws.{by-test}
 use Rattle.lists.proofs.BelowLaws.{iter-none, iter-more}
-use Rattle.lists.proofs.TableLaws.{push-packed}
+use Rattle.lists.proofs.TableLaws.{push-packed, len-packed}
 use Rattle.handles.specs.Handles.{handleOf}
 use Rattle.handles.specs.declared.arena.Slot.{Slot}
 use Rattle.handles.specs.declared.arena.Arena.{Arena}
+use Rattle.handles.specs.declared.arena.Handles.{Handles}
 use Rattle.handles.specs.Slots.{noSlot, usedPlaces, handlesAt, handlesBelow, handlesTable}
 
 pub places-within : (a : Arena) → usedPlaces a ≤ 64
@@ -45,10 +46,11 @@ module _ (l : List Slot) where
   module _ (i : ℕ) where
     pub turn-filled : i < 64 → getD l i noSlot .filled ≡ true
         → pushed handlesTable (packed handlesTable (handlesBelow l i)) (handleOf i (getD l i noSlot .generation)) ≡ packed handlesTable (handlesBelow l (i + 1))
-    turn-filled h t = rw (below-filled i t) (push-packed handlesTable (handlesBelow l i) _ (room i (length (handlesBelow l i)) h (below-few i)))
-      where
-        room : (i n : ℕ) → i < 64 → n ≤ i → n < 64
-        room i n h g = omega arith
+    turn-filled h t = rw (below-filled i t) (push-packed handlesTable (handlesBelow l i) _ (omega (arith, below-few i)))
+
+    -- the table of the slots passed has room
+    pub turn-room : (t : Handles) → t ≡ packed handlesTable (handlesBelow l i) → i < 64 → t .len < 64
+    turn-room t e h = rw (ap (λ (u : Handles). u .len) e ∙ len-packed handlesTable (handlesBelow l i)) (omega (arith, below-few i))
 
     pub turn-empty : getD l i noSlot .filled ≡ false → packed handlesTable (handlesBelow l i) ≡ packed handlesTable (handlesBelow l (i + 1))
     turn-empty t = rw (below-empty i t)

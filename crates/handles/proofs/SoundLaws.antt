@@ -1,18 +1,20 @@
 -- A well-formed table as facts: each part of the test is a fact, and the facts together make the test.
-use Prim.Native.Nat.{ℕ, _≤_, _<_}
-use mathlib.Core.Path.{_≡_, sym}
-use mathlib.Core.Bool.{true, _&&_}
-use lib.Dec.{leb, eqb}
+use Prim.Native.Nat.{ℕ, _+_, _≤_, _<_}
+use mathlib.Core.Path.{_≡_}
+use mathlib.Core.Bool.{true}
+use native.Mathlib.Omega.{arith}
+use lib.ListN.{length}
+use lib.Seq.{length-take-le}
+use lib.Dec.{leb}
 use borrow.Author.Tests.{leb-true, le-leb, eqb-true, eq-eqb}
 use Rattle.lists.specs.Lists.{all}
-use Rattle.lists.specs.Below.{allBelow, countBelow}
+use Rattle.lists.specs.Below.{countBelow}
 use Rattle.lists.proofs.ListLaws.{and-left, and-right, and-both}
 use Rattle.lists.proofs.BelowLaws.{all-at, all-of}
+use Rattle.handles.proofs.OccurrenceLaws.{each-once}
 use Rattle.handles.specs.declared.arena.Arena.{Arena}
-use Rattle.handles.specs.Slots.{noSlot, slotAt}
-use Rattle.handles.specs.WellFormed.{
-  isWithin, countsWithin, hasGeneration, generationsSet, isFilled, liveIsFilled, freeList, isBelow, occurrencesOf, entriesDue, standsOnce, freeIsEmpty, wellFormed
-}
+use Rattle.handles.specs.Slots.{slotAt}
+use Rattle.handles.specs.WellFormed.{isWithin, countsWithin, hasGeneration, generationsSet, isFilled, liveIsFilled, freeList, isBelow, occurrencesOf, entriesDue, standsAsDue, wellFormed}
 
 -- a count within its table and the limit
 pub record Within (limit n : ℕ) : Type 0 where
@@ -60,7 +62,7 @@ module _ (a : Arena) (limit : ℕ) where
         counted = eqb-true (a .live) _ (and-left (liveIsFilled a) _ h₂);
         below = and-left (all (isBelow (a .used)) (freeList a)) _ h₃;
         once = λ i l. eqb-true (occurrencesOf i (freeList a)) _
-            (all-at (standsOnce (a .slots) (freeList a)) (a .used) i (and-right (all (isBelow (a .used)) (freeList a)) _ h₃) l);
+            (all-at (standsAsDue (a .slots) (freeList a)) (a .used) i (and-right (all (isBelow (a .used)) (freeList a)) _ h₃) l);
       }
 
   pub well-formed : Sound a limit → wellFormed a limit ≡ true
@@ -70,4 +72,10 @@ module _ (a : Arena) (limit : ℕ) where
       and-both (and-both (within-back (c .used)) (and-both (within-back (c .freed)) (within-back (c .live))))
       (and-both (all-of (hasGeneration (a .slots)) (a .used) (s .aged))
       (and-both (eq-eqb (a .live) _ (s .counted))
-      (and-both (s .below) (all-of (standsOnce (a .slots) (freeList a)) (a .used) (λ i l. eq-eqb _ _ (s .once i l))))))
+      (and-both (s .below) (all-of (standsAsDue (a .slots) (freeList a)) (a .used) (λ i l. eq-eqb _ _ (s .once i l))))))
+
+-- every used slot is filled or in the free list
+pub balance : (a : Arena) (limit : ℕ) → length (a .free) ≡ 64 → Sound a limit → a .freed + a .live ≡ a .used
+balance a limit whole s =
+    let enough : a .freed ≤ length (a .free) = omega (arith, s .within-limit .freed .table) in
+    omega (arith, each-once (isFilled (a .slots)) (a .used) (freeList a) (s .below) (s .once), length-take-le (a .freed) (a .free) enough, s .counted)

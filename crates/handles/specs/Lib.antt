@@ -1,3 +1,4 @@
 pub mod Handles
 pub mod Slots
 pub mod WellFormed
+pub mod Claims

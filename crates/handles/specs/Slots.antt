@@ -19,6 +19,7 @@ use Rattle.handles.specs.declared.arena.SlotStatus.the-variants.{Live, I
 use Rattle.handles.specs.declared.arena.ReleaseOutcome.{ReleaseOutcome}
 use Rattle.handles.specs.declared.arena.ReleaseOutcome.the-variants as outcome
 
+-- the slot of a generation, filled or empty
 abbrev pub slotOf : ℕ → Bool → Slot
 slotOf g f = record { generation = g; filled = f }
 
@@ -26,11 +27,12 @@ slotOf g f = record { generation = g; filled = f }
 abbrev pub noSlot : Slot
 noSlot = slotOf 0 false
 
+-- the table of its five parts: slots, used, free, freed, live
 abbrev pub arenaOf : List Slot → ℕ → List ℕ → ℕ → ℕ → Arena
 arenaOf s u f n l = record { slots = s; used = u; free = f; freed = n; live = l }
 
 -- nothing was ever issued
-abbrev pub emptyArena : Arena
+unfoldable pub emptyArena : Arena
 emptyArena = arenaOf (replicate 64 noSlot) 0 (replicate 64 0) 0 0
 
 -- the slot with an index
@@ -42,7 +44,7 @@ abbrev pub statusOf : Slot → ℕ → SlotStatus
 statusOf s g = cond (s .filled && eqb (s .generation) g) Live Stale
 
 -- a handle that no slot could have issued, or of a slot never used, is invalid; else its slot decides
-abbrev pub lookupOf : Arena → GenerationalHandle → SlotStatus
+unfoldable pub lookupOf : Arena → GenerationalHandle → SlotStatus
 lookupOf a h = cond (isValid h && ltb (h .index) (a .used)) (statusOf (slotAt a (h .index)) (h .generation)) Invalid
 
 -- a slot is free or was never used, and the counts are within the table

@@ -51,12 +51,12 @@ abbrev pub entriesDue : Slot → ℕ
 entriesDue s = cond (s .filled) 0 1
 
 -- a slot stands in the free list as often as is due
-abbrev pub standsOnce : List Slot → List ℕ → ℕ → Bool
-standsOnce l free i = eqb (occurrencesOf i free) (entriesDue (getD l i noSlot))
+abbrev pub standsAsDue : List Slot → List ℕ → ℕ → Bool
+standsAsDue l free i = eqb (occurrencesOf i free) (entriesDue (getD l i noSlot))
 
 -- the free list is the empty slots, each once
 abbrev pub freeIsEmpty : Arena → Bool
-freeIsEmpty a = all (isBelow (a .used)) (freeList a) && allBelow (standsOnce (a .slots) (freeList a)) (a .used)
+freeIsEmpty a = all (isBelow (a .used)) (freeList a) && allBelow (standsAsDue (a .slots) (freeList a)) (a .used)
 
 -- the table is sound for a limit
 unfoldable pub wellFormed : Arena → ℕ → Bool

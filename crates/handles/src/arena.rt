@@ -1,14 +1,34 @@
 // A slot table: slots are issued from the free list, the last freed first, and then from those never used.
 // What a slot holds stands elsewhere, in an array by slot index.
 ghost use mathlib.Core.Path.{_≡_};
-ghost use Prim.Native.Nat.{_≤_, _<_};
+ghost use Prim.Native.Nat.{_<_};
 ghost use lib.ListN.{getD, set};
 ghost use Rattle.lists.specs.Tables.{packed, pushed};
 ghost use Rattle.handles.specs.Slots.{
-    noSlot, emptyArena, lookupOf, statusOf, hasRoom, allocated, fromFree, fromUnused, released, releasedLive, usedPlaces, noneExhausted, isExhausted, handlesTable, liveHandles
+  noSlot,
+  emptyArena,
+  lookupOf,
+  statusOf,
+  hasRoom,
+  allocated,
+  fromFree,
+  fromUnused,
+  released,
+  releasedLive,
+  usedPlaces,
+  noneExhausted,
+  isExhausted,
+  handlesTable,
+  liveHandles,
 };
 use crate::handle::GenerationalHandle;
 use lists::both;
+
+// The places of the table: one form holds windows, views and panels.
+pub const SLOTS: usize = 64;
+
+// A slot at this generation is not released: there is none after it.
+const LAST_GENERATION: u32 = 4294967295;
 
 // One place of the table. The generation is that of the handle last issued for it, or, where it is empty, of the next.
 pub struct Slot {
@@ -18,9 +38,9 @@ pub struct Slot {
 
 // The first `used` slots were issued at some time; the first `freed` places of `free` are the indices of the empty ones.
 pub struct Arena {
-    pub slots: [Slot; 64],
+    pub slots: [Slot; SLOTS],
     pub used: usize,
-    pub free: [u32; 64],
+    pub free: [u32; SLOTS],
     pub freed: usize,
     pub live: usize,
 }
@@ -30,9 +50,12 @@ impl Arena {
         ensures { λ r. ⌜ r ≡ emptyArena ⌝ }
     {
         Self {
-            slots: [Slot { generation: 0, filled: false }; 64],
+            slots: [Slot {
+                generation: 0,
+                filled: false,
+            }; SLOTS],
             used: 0,
-            free: [0; 64],
+            free: [0; SLOTS],
             freed: 0,
             live: 0,
         }
@@ -40,37 +63,40 @@ impl Arena {
 }
 
 // Past the end of the table a read is an empty slot or 0, and a write does nothing.
-fn slot_at(slots: [Slot; 64], i: usize) -> Slot
+fn slot_at(slots: [Slot; SLOTS], i: usize) -> Slot
     ensures { λ r. ⌜ r ≡ getD slots i noSlot ⌝ }
 {
-    if i < 64 {
+    if i < SLOTS {
         slots[i]
     } else {
-        Slot { generation: 0, filled: false }
+        Slot {
+            generation: 0,
+            filled: false,
+        }
     }
 }
 
-fn set_slot(slots: [Slot; 64], i: usize, s: Slot) -> [Slot; 64]
+fn set_slot(slots: [Slot; SLOTS], i: usize, s: Slot) -> [Slot; SLOTS]
     ensures { λ r. ⌜ r ≡ set slots i s ⌝ }
 {
     let mut changed = slots;
-    if i < 64 {
+    if i < SLOTS {
         changed[i] = s;
     }
     changed
 }
 
-fn free_at(free: [u32; 64], i: usize) -> u32
+fn free_at(free: [u32; SLOTS], i: usize) -> u32
     ensures { λ r. ⌜ r ≡ getD free i 0 ⌝ }
 {
-    if i < 64 { free[i] } else { 0 }
+    if i < SLOTS { free[i] } else { 0 }
 }
 
-fn set_free(free: [u32; 64], i: usize, index: u32) -> [u32; 64]
+fn set_free(free: [u32; SLOTS], i: usize, index: u32) -> [u32; SLOTS]
     ensures { λ r. ⌜ r ≡ set free i index ⌝ }
 {
     let mut changed = free;
-    if i < 64 {
+    if i < SLOTS {
         changed[i] = index;
     }
     changed
@@ -117,21 +143,22 @@ pub struct Allocation {
 fn has_room(used: usize, freed: usize, live: usize) -> bool
     ensures { λ r. ⌜ r ≡ hasRoom used freed live ⌝ }
 {
-    if used > 64 {
+    if used > SLOTS {
         return false;
     }
-    if freed > 64 {
+    if freed > SLOTS {
         return false;
     }
-    if live >= 64 {
+    if live >= SLOTS {
         return false;
     }
     if freed > 0 {
         return true;
     }
-    used < 64
+    used < SLOTS
 }
 
+// No well-formed arena has an entry of the free list that is past the used slots.
 fn allocate_freed(a: Arena) -> Allocation
     requires { ⌜ (0 < a .freed) × (a .live < 64) ⌝ }
     ensures { λ r. ⌜ r ≡ fromFree a ⌝ }
@@ -141,10 +168,26 @@ fn allocate_freed(a: Arena) -> Allocation
     let last = a.freed - 1;
     let index = free_at(free, last);
     let s = slot_at(slots, index as usize);
-    let issued = set_slot(slots, index as usize, Slot { generation: s.generation, filled: true });
+    let issued = set_slot(
+        slots,
+        index as usize,
+        Slot {
+            generation: s.generation,
+            filled: true,
+        },
+    );
     Allocation {
-        handle: GenerationalHandle { index: index, generation: s.generation },
-        arena: Arena { slots: issued, used: a.used, free: free, freed: last, live: a.live + 1 },
+        handle: GenerationalHandle {
+            index: index,
+            generation: s.generation,
+        },
+        arena: Arena {
+            slots: issued,
+            used: a.used,
+            free: free,
+            freed: last,
+            live: a.live + 1,
+        },
     }
 }
 
@@ -155,10 +198,26 @@ fn allocate_unused(a: Arena, first_generation: u32) -> Allocation
     let slots = a.slots;
     let free = a.free;
     let used = a.used;
-    let issued = set_slot(slots, used, Slot { generation: first_generation, filled: true });
+    let issued = set_slot(
+        slots,
+        used,
+        Slot {
+            generation: first_generation,
+            filled: true,
+        },
+    );
     Allocation {
-        handle: GenerationalHandle { index: used as u32, generation: first_generation },
-        arena: Arena { slots: issued, used: used + 1, free: free, freed: a.freed, live: a.live + 1 },
+        handle: GenerationalHandle {
+            index: used as u32,
+            generation: first_generation,
+        },
+        arena: Arena {
+            slots: issued,
+            used: used + 1,
+            free: free,
+            freed: a.freed,
+            live: a.live + 1,
+        },
     }
 }
 
@@ -172,7 +231,10 @@ pub fn allocate(a: Arena, first_generation: u32) -> Allocation
         }
         return allocate_unused(a, first_generation);
     }
-    Allocation { handle: GenerationalHandle::INVALID, arena: a }
+    Allocation {
+        handle: GenerationalHandle::INVALID,
+        arena: a,
+    }
 }
 
 pub enum ReleaseOutcome {
@@ -191,23 +253,45 @@ pub struct ReleaseAnswer {
 fn release_live(a: Arena, h: GenerationalHandle) -> ReleaseAnswer
     ensures { λ r. ⌜ r ≡ releasedLive a h ⌝ }
 {
-    if h.generation == 4294967295 {
-        return ReleaseAnswer { outcome: ReleaseOutcome::GenerationExhausted, arena: a };
+    if h.generation == LAST_GENERATION {
+        return ReleaseAnswer {
+            outcome: ReleaseOutcome::GenerationExhausted,
+            arena: a,
+        };
     }
     let freed = a.freed;
-    if freed >= 64 {
-        return ReleaseAnswer { outcome: ReleaseOutcome::Invalid, arena: a };
+    if freed >= SLOTS {
+        return ReleaseAnswer {
+            outcome: ReleaseOutcome::Invalid,
+            arena: a,
+        };
     }
     if a.live == 0 {
-        return ReleaseAnswer { outcome: ReleaseOutcome::Invalid, arena: a };
+        return ReleaseAnswer {
+            outcome: ReleaseOutcome::Invalid,
+            arena: a,
+        };
     }
     let slots = a.slots;
     let free = a.free;
-    let emptied = set_slot(slots, h.index as usize, Slot { generation: h.generation + 1, filled: false });
+    let emptied = set_slot(
+        slots,
+        h.index as usize,
+        Slot {
+            generation: h.generation + 1,
+            filled: false,
+        },
+    );
     let longer = set_free(free, freed, h.index);
     ReleaseAnswer {
         outcome: ReleaseOutcome::Released,
-        arena: Arena { slots: emptied, used: a.used, free: longer, freed: freed + 1, live: a.live - 1 },
+        arena: Arena {
+            slots: emptied,
+            used: a.used,
+            free: longer,
+            freed: freed + 1,
+            live: a.live - 1,
+        },
     }
 }
 
@@ -217,8 +301,14 @@ pub fn release(a: Arena, h: GenerationalHandle) -> ReleaseAnswer
 {
     match lookup(a, h) {
         SlotStatus::Live => release_live(a, h),
-        SlotStatus::Invalid => ReleaseAnswer { outcome: ReleaseOutcome::Invalid, arena: a },
-        SlotStatus::Stale => ReleaseAnswer { outcome: ReleaseOutcome::Stale, arena: a },
+        SlotStatus::Invalid => ReleaseAnswer {
+            outcome: ReleaseOutcome::Invalid,
+            arena: a,
+        },
+        SlotStatus::Stale => ReleaseAnswer {
+            outcome: ReleaseOutcome::Stale,
+            arena: a,
+        },
     }
 }
 
@@ -226,13 +316,13 @@ pub fn release(a: Arena, h: GenerationalHandle) -> ReleaseAnswer
 fn used_places(a: Arena) -> usize
     ensures { λ r. ⌜ r ≡ usedPlaces a ⌝ }
 {
-    if a.used < 64 { a.used } else { 64 }
+    if a.used < SLOTS { a.used } else { SLOTS }
 }
 
 fn is_exhausted(s: Slot) -> bool
     ensures { λ r. ⌜ r ≡ isExhausted s ⌝ }
 {
-    both(s.filled, s.generation == 4294967295)
+    both(s.filled, s.generation == LAST_GENERATION)
 }
 
 // Whether every filled slot can be released: none is at the last generation.
@@ -252,7 +342,7 @@ pub fn preflight_release(a: Arena) -> bool
 }
 
 pub struct Handles {
-    pub items: [GenerationalHandle; 64],
+    pub items: [GenerationalHandle; SLOTS],
     pub len: usize,
 }
 
@@ -263,7 +353,10 @@ fn push(t: Handles, h: GenerationalHandle) -> Handles
     let mut items = t.items;
     let at = t.len;
     items[at] = h;
-    Handles { items: items, len: at + 1 }
+    Handles {
+        items: items,
+        len: at + 1,
+    }
 }
 
 // The handles of the filled slots, in slot order.
@@ -272,12 +365,24 @@ pub fn live_handles(a: Arena) -> Handles
 {
     let slots = a.slots;
     let n = used_places(a);
-    let mut live = Handles { items: [GenerationalHandle { index: 0, generation: 0 }; 64], len: 0 };
+    let mut live = Handles {
+        items: [GenerationalHandle {
+            index: 0,
+            generation: 0,
+        }; SLOTS],
+        len: 0,
+    };
     let mut i: usize = 0;
     while i < n {
         let s = slot_at(slots, i);
         if s.filled {
-            live = push(live, GenerationalHandle { index: i as u32, generation: s.generation });
+            live = push(
+                live,
+                GenerationalHandle {
+                    index: i as u32,
+                    generation: s.generation,
+                },
+            );
         }
         i += 1;
     }

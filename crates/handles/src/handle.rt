@@ -2,6 +2,9 @@
 ghost use mathlib.Core.Path.{_≡_};
 ghost use Rattle.handles.specs.Handles.{isValid, sameHandle, handleLt, sameOptional, holdsHandle};
 
+// The index that no slot has.
+const NO_INDEX: u32 = 4294967295;
+
 pub struct GenerationalHandle {
     pub index: u32,
     pub generation: u32,
@@ -10,7 +13,7 @@ pub struct GenerationalHandle {
 impl GenerationalHandle {
     // The handle of no slot.
     pub const INVALID: Self = Self {
-        index: 4294967295,
+        index: NO_INDEX,
         generation: 0,
     };
 
@@ -21,7 +24,7 @@ impl GenerationalHandle {
         if self.generation == 0 {
             return false;
         }
-        self.index != 4294967295
+        self.index != NO_INDEX
     }
 }
 

@@ -5,16 +5,25 @@ ghost use lib.ListN.{take};
 ghost use Rattle.lists.specs.Lists.{all};
 ghost use Rattle.lists.specs.Below.{allBelow, countBelow};
 ghost use Rattle.handles.specs.WellFormed.{
-    isWithin, hasGeneration, isFilled, isBelow, occurrencesOf, entriesDue, standsOnce, countsWithin, freeIsEmpty, wellFormed
+  isWithin,
+  hasGeneration,
+  isFilled,
+  isBelow,
+  occurrencesOf,
+  entriesDue,
+  standsAsDue,
+  countsWithin,
+  wellFormed,
 };
 use crate::arena::Arena;
+use crate::arena::SLOTS;
 use crate::arena::Slot;
 use lists::both;
 
 fn is_within(count: usize, limit: usize) -> bool
     ensures { λ r. ⌜ r ≡ isWithin limit count ⌝ }
 {
-    both(count <= 64, count <= limit)
+    both(count <= SLOTS, count <= limit)
 }
 
 fn counts_within(a: Arena, limit: usize) -> bool
@@ -26,7 +35,7 @@ fn counts_within(a: Arena, limit: usize) -> bool
     both(used, both(freed, live))
 }
 
-fn generations_set(slots: [Slot; 64], used: usize) -> bool
+fn generations_set(slots: [Slot; SLOTS], used: usize) -> bool
     requires { ⌜ used ≤ 64 ⌝ }
     ensures { λ r. ⌜ r ≡ allBelow (hasGeneration slots) used ⌝ }
 {
@@ -40,7 +49,7 @@ fn generations_set(slots: [Slot; 64], used: usize) -> bool
     ok
 }
 
-fn filled_count(slots: [Slot; 64], used: usize) -> usize
+fn filled_count(slots: [Slot; SLOTS], used: usize) -> usize
     requires { ⌜ used ≤ 64 ⌝ }
     ensures { λ r. ⌜ r ≡ countBelow (isFilled slots) used ⌝ }
 {
@@ -56,7 +65,7 @@ fn filled_count(slots: [Slot; 64], used: usize) -> usize
     count
 }
 
-fn entries_below(free: [u32; 64], freed: usize, used: usize) -> bool
+fn entries_below(free: [u32; SLOTS], freed: usize, used: usize) -> bool
     requires { ⌜ freed ≤ 64 ⌝ }
     ensures { λ r. ⌜ r ≡ all (isBelow used) (take freed free) ⌝ }
 {
@@ -70,7 +79,7 @@ fn entries_below(free: [u32; 64], freed: usize, used: usize) -> bool
     ok
 }
 
-fn occurrences(slot: usize, free: [u32; 64], freed: usize) -> usize
+fn occurrences(slot: usize, free: [u32; SLOTS], freed: usize) -> usize
     requires { ⌜ freed ≤ 64 ⌝ }
     ensures { λ r. ⌜ r ≡ occurrencesOf slot (take freed free) ⌝ }
 {
@@ -93,9 +102,9 @@ fn entries_due(s: Slot) -> usize
     if s.filled { 0 } else { 1 }
 }
 
-fn each_stands_once(slots: [Slot; 64], used: usize, free: [u32; 64], freed: usize) -> bool
+fn each_stands_as_due(slots: [Slot; SLOTS], used: usize, free: [u32; SLOTS], freed: usize) -> bool
     requires { ⌜ (used ≤ 64) × (freed ≤ 64) ⌝ }
-    ensures { λ r. ⌜ r ≡ allBelow (standsOnce slots (take freed free)) used ⌝ }
+    ensures { λ r. ⌜ r ≡ allBelow (standsAsDue slots (take freed free)) used ⌝ }
 {
     let mut ok = true;
     let mut i: usize = 0;
@@ -120,7 +129,7 @@ pub fn is_well_formed(a: Arena, limit: usize) -> bool
         let generations = generations_set(slots, used);
         let count = filled_count(slots, used);
         let below = entries_below(free, freed, used);
-        let once = each_stands_once(slots, used, free, freed);
+        let once = each_stands_as_due(slots, used, free, freed);
         return both(generations, both(a.live == count, both(below, once)));
     }
     false

@@ -103,6 +103,23 @@ count-flip p q (suc n) k l f t o = ⊎-elim
     over : (k n : ℕ) → k < n → n ≡ k → ⊥
     over k n g e = omega arith
 
+-- an index that passes is counted
+pub count-some : (p : ℕ → Bool) (n k : ℕ) → k < n → p k ≡ true → 0 < countBelow p n
+unfolding countBelow
+count-some p zero k l t = absurd (none k l)
+  where
+    none : (k : ℕ) → k < 0 → ⊥
+    none k l = omega arith
+count-some p (suc n) k l t = by-test (p n)
+    (λ u. simp u (omega arith))
+    (λ u. simp u (⊎-elim
+    (λ (e : k ≡ n). clash t (rw e u))
+    (λ (g : k < n). count-some p n k g t)
+    (eq-or-lt-of-le (below k n l))))
+  where
+    below : (i n : ℕ) → i < suc n → i ≤ n
+    below i n l = omega arith
+
 -- ---- an iteration
 pub iter-none : {S : Type 0} (f : ℕ → S → S) (s : S) → iterBelow f 0 s ≡ s
 unfolding iterBelow

@@ -3,7 +3,7 @@ use mathlib.Core.Path.{_≡_, refl, sym, ap, _∙_}
 use mathlib.Core.Bool.{Bool, true, false, cond, not, _&&_, true≢false}
 use mathlib.Core.List.{List, [], _∷_, _++_, append-assoc, append-nil, map}
 use mathlib.Core.Option.{Option, none, some}
-use Prim.Native.Nat.{ℕ, suc, _+_, _-_, _≤_, _<_}
+use Prim.Native.Nat.{ℕ, zero, suc, _+_, _-_, _≤_, _<_}
 use native.Mathlib.Numerals.{add-one}
 use native.Mathlib.Omega.{arith}
 use lib.ListN.{length, take, drop, take-append-drop, set, getD, replicate, length-append, length-replicate, List·getD-eq-default}
@@ -49,6 +49,12 @@ module _ {E : Type 0} where
 
   pub past-get : (l : List E) (i n : ℕ) (d : E) → length l ≡ n → n ≤ i → d ≡ getD l i d
   past-get l i n d e h = sym (List·getD-eq-default l d (omega arith))
+
+  -- inside an array the default does not matter
+  pub get-within : (l : List E) (i : ℕ) (d e : E) → i < length l → getD l i d ≡ getD l i e
+  get-within [] i d e h = absurd (omega arith)
+  get-within (x ∷ l) zero d e h = refl
+  get-within (x ∷ l) (suc i) d e h = get-within l i d e (omega arith)
 
   -- ---- what a test keeps
   pub keep-append : (p : E → Bool) (a b : List E) → keep p (a ++ b) ≡ keep p a ++ keep p b

@@ -1,56 +1,50 @@
+-- An allocation is the definition: room gives both branches the bounds that they ask for.
 use mathlib.Core.Path.{sym, _∙_}
 use Rattle.handles.specs.Slots.{allocated}
 use Rattle.handles.proofs.RoomLaws.{live-below, used-below}
-use borrow.Author.Tests.{le-leb, le-ltb, lt-leb, lt-ltb}
+use borrow.Author.Tests.{le-ltb, lt-ltb}
 use borrow.Author.Needs.{needs}
 use Rattle.handles.proofs.arena.allocate.Statement.{statement}
 use Rattle.handles.proofs.arena.allocate.Tie as tie
-use Rattle.handles.proofs.arena.allocate.Reads as reads
-use Rattle.handles.proofs.arena.allocate.Lts as lts
-use Rattle.handles.proofs.arena.allocate_freed.Reads as allocate-freed-reads
-use Rattle.handles.proofs.arena.allocate_unused.Reads as allocate-unused-reads
-use Rattle.handles.proofs.arena.has_room.Reads as has-room-reads
 
--- src/arena.rt:169:8
 has-room-requires : tie.Need-has-room-requires
 has-room-requires c κs = search needs
 
--- src/arena.rt:171:13
 allocate-freed-requires : tie.Need-allocate-freed-requires
 allocate-freed-requires c κs = (c .if2 .taken, live-below _ _ _ (sym (c .before .before .before .has-room .ensures) ∙ c .before .before .if1 .taken))
 
--- src/arena.rt:171:13
 returns : tie.Need-returns
 unfolding allocated
 returns c =
-    simp (← c .allocate-freed .ensures,
+    simp (
+      ← c .allocate-freed .ensures,
       lt-ltb _ _ (c .before .if2 .taken),
-      lt-leb _ _ (c .before .if2 .taken),
       c .before .before .before .if1 .taken,
-      ← c .before .before .before .before .has-room .ensures)
+      ← c .before .before .before .before .has-room .ensures,
+    )
 
--- src/arena.rt:173:9
 allocate-unused-requires : tie.Need-allocate-unused-requires
 allocate-unused-requires c κs =
     let room = sym (c .before .before .before .has-room .ensures) ∙ c .before .before .if1 .taken in
     (used-below _ _ _ room (c .if2 .left), live-below _ _ _ room)
 
--- src/arena.rt:173:9
 returns-2 : tie.Need-returns-2
 unfolding allocated
 returns-2 c =
-    simp (← c .allocate-unused .ensures,
-      le-leb _ _ (c .before .if2 .left),
+    simp (
+      ← c .allocate-unused .ensures,
       le-ltb _ _ (c .before .if2 .left),
       c .before .before .before .if1 .taken,
-      ← c .before .before .before .before .has-room .ensures)
+      ← c .before .before .before .before .has-room .ensures,
+    )
 
--- src/arena.rt:166:1
 returns-3 : tie.Need-returns-3
 unfolding allocated
 returns-3 c =
-    simp (c .if1 .left,
-      ← c .before .has-room .ensures)
+    simp (
+      c .if1 .left,
+      ← c .before .has-room .ensures,
+    )
 
 pub allocate-spec : {M : Type 1} → statement M
 allocate-spec =

@@ -1,21 +1,14 @@
-use Prim.Native.Nat.{ℕ, _≤_, _-_}
-use mathlib.Core.Path.{_≡_, refl, sym, ap, _∙_}
-use Rattle.lists.proofs.TableLaws.{len-packed}
-use Rattle.handles.specs.declared.arena.Handles.{Handles}
+-- The loop holds the handles of the slots passed as a table: a filled slot pushes its handle, and an empty one nothing.
+use Prim.Native.Nat.{_≤_, _-_}
+use mathlib.Core.Path.{_≡_, refl, sym, _∙_}
 use mathlib.Core.Logic.{⊎-elim}
 use native.Mathlib.Omega.{arith}
 use borrow.Author.Needs.{needs}
-use lib.ListN.{getD}
 use Rattle.lists.specs.Tables.{packed}
 use Rattle.handles.specs.Slots.{usedPlaces, handlesTable, handlesBelow}
-use Rattle.handles.proofs.LiveLaws.{places-within, below-none, below-few, turn-filled, turn-empty}
+use Rattle.handles.proofs.LiveLaws.{places-within, below-none, turn-room, turn-filled, turn-empty}
 use Rattle.handles.proofs.arena.live_handles.Statement.{statement}
 use Rattle.handles.proofs.arena.live_handles.Tie as tie
-use Rattle.handles.proofs.arena.live_handles.Reads as reads
-use Rattle.handles.proofs.arena.live_handles.Lts as lts
-use Rattle.handles.proofs.arena.push.Reads as push-reads
-use Rattle.handles.proofs.arena.slot_at.Reads as slot-at-reads
-use Rattle.handles.proofs.arena.used_places.Reads as used-places-reads
 
 abbrev Inv-loop : tie.InvT-loop
 Inv-loop slots n live₀ i₀ live i = ((i ≤ n) × (n ≤ 64)) × (live ≡ packed handlesTable (handlesBelow slots i))
@@ -23,46 +16,38 @@ Inv-loop slots n live₀ i₀ live i = ((i ≤ n) × (n ≤ 64)) × (live ≡ pa
 abbrev μ-loop : tie.MeasureT-loop
 μ-loop slots n live₀ i₀ live i = n - i
 
--- src/arena.rt:263:9
 used-places-requires : tie.Need-used-places-requires Inv-loop μ-loop
 used-places-requires c κs = search needs
 
--- src/arena.rt:266:5
 loop-holds : tie.Need-loop-holds Inv-loop μ-loop
 unfolding packed
 loop-holds c = ((omega arith, rw (c .used-places .ensures) (places-within (c .before .before .args .a))), rw below-none refl)
 
--- src/arena.rt:267:13
 slot-at-requires : tie.Need-slot-at-requires Inv-loop μ-loop
 slot-at-requires c κs = search needs
 
--- src/arena.rt:269:59
 cast-t10 : tie.Need-cast-t10 Inv-loop μ-loop
 cast-t10 c = omega arith
 
--- src/arena.rt:269:13
 push-requires : tie.Need-push-requires Inv-loop μ-loop
-push-requires c κs = omega (arith, below-few (c .before .before .before .before .before .before .args .a .slots) (c .before .before .before .loop .i), ap (λ (t : Handles). t .len) (c .before .before .before .loop .inv .1) ∙ len-packed handlesTable _)
+push-requires c κs = turn-room _ _ _ (c .before .before .before .loop .inv .1) (omega arith)
 
--- src/arena.rt:271:9
 add-i : tie.Need-add-i Inv-loop μ-loop
 add-i c = omega arith
 
--- src/arena.rt:266:5
 loop-less : tie.Need-loop-less Inv-loop μ-loop
 loop-less c = omega arith
 
--- src/arena.rt:266:5
 loop-again : tie.Need-loop-again Inv-loop μ-loop
 loop-again c =
-    let d = c .before .before .before in
-    ((omega arith, omega arith),
-    ⊎-elim
-    (λ w. w .2 ∙ w .1 .ensures ∙ rw (d .loop .inv .1, c .before .slot-at .ensures) (turn-filled _ _ (omega arith) (rw (sym (c .before .slot-at .ensures)) (w .0 .taken))))
-    (λ w. w .1 ∙ d .loop .inv .1 ∙ turn-empty _ _ (rw (sym (c .before .slot-at .ensures)) (w .0 .left)))
-    (c .if1 .came))
+    let d = c .before .before .before in (
+      (omega arith, omega arith),
+      ⊎-elim
+          (λ w. w .2 ∙ w .1 .ensures ∙ rw (d .loop .inv .1, c .before .slot-at .ensures) (turn-filled _ _ (omega arith) (rw (sym (c .before .slot-at .ensures)) (w .0 .taken))))
+          (λ w. w .1 ∙ d .loop .inv .1 ∙ turn-empty _ _ (rw (sym (c .before .slot-at .ensures)) (w .0 .left)))
+          (c .if1 .came),
+    )
 
--- src/arena.rt:259:1
 returns : tie.Need-returns Inv-loop μ-loop
 returns c =
     let all : c .before .loop .i ≡ usedPlaces (c .before .before .before .before .args .a) = omega arith in

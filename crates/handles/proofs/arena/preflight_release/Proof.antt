@@ -1,3 +1,4 @@
+-- The loop gathers, below each index, whether no slot passed is exhausted.
 use Prim.Native.Nat.{_≤_, _-_}
 use mathlib.Core.Path.{_≡_, sym, ap, _∙_}
 use mathlib.Core.Bool.{not}
@@ -9,12 +10,6 @@ use Rattle.lists.proofs.BelowLaws.{all-none, all-more}
 use Rattle.handles.specs.Slots.{noSlot, isExhausted, noneExhausted}
 use Rattle.handles.proofs.arena.preflight_release.Statement.{statement}
 use Rattle.handles.proofs.arena.preflight_release.Tie as tie
-use Rattle.handles.proofs.arena.preflight_release.Reads as reads
-use Rattle.handles.proofs.arena.preflight_release.Lts as lts
-use Rattle.handles.proofs.arena.is_exhausted.Reads as is-exhausted-reads
-use Rattle.handles.proofs.arena.slot_at.Reads as slot-at-reads
-use Rattle.handles.proofs.arena.used_places.Reads as used-places-reads
-use Rattle.lists.proofs.both.Reads as both-reads
 
 abbrev Inv-loop : tie.InvT-loop
 Inv-loop slots n ok₀ i₀ ok i = (i ≤ n) × (ok ≡ allBelow (λ k. not (isExhausted (getD slots k noSlot))) i)
@@ -22,40 +17,31 @@ Inv-loop slots n ok₀ i₀ ok i = (i ≤ n) × (ok ≡ allBelow (λ k. not (isE
 abbrev μ-loop : tie.MeasureT-loop
 μ-loop slots n ok₀ i₀ ok i = n - i
 
--- src/arena.rt:232:9
 used-places-requires : tie.Need-used-places-requires Inv-loop μ-loop
 used-places-requires c κs = search needs
 
--- src/arena.rt:235:5
 loop-holds : tie.Need-loop-holds Inv-loop μ-loop
 loop-holds c = (omega arith, sym (all-none _))
 
--- src/arena.rt:236:38
 slot-at-requires : tie.Need-slot-at-requires Inv-loop μ-loop
 slot-at-requires c κs = search needs
 
--- src/arena.rt:236:13
 is-exhausted-requires : tie.Need-is-exhausted-requires Inv-loop μ-loop
 is-exhausted-requires c κs = search needs
 
--- src/arena.rt:237:9
 both-requires : tie.Need-both-requires Inv-loop μ-loop
 both-requires c κs = search needs
 
--- src/arena.rt:238:9
 add-i : tie.Need-add-i Inv-loop μ-loop
 add-i c = omega arith
 
--- src/arena.rt:235:5
 loop-less : tie.Need-loop-less Inv-loop μ-loop
 loop-less c = omega arith
 
--- src/arena.rt:235:5
 loop-again : tie.Need-loop-again Inv-loop μ-loop
 loop-again c =
     (omega arith, simp (all-more, c .both .ensures, c .before .is-exhausted .ensures, c .before .before .slot-at .ensures, c .before .before .before .before .loop .inv .1))
 
--- src/arena.rt:228:1
 returns : tie.Need-returns Inv-loop μ-loop
 unfolding noneExhausted
 returns c = c .before .loop .inv .1 ∙ ap (allBelow _) (omega arith)

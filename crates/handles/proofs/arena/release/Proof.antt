@@ -1,53 +1,48 @@
+-- A release is the definition, by the three answers of the lookup.
 use Rattle.handles.specs.Slots.{released}
 use borrow.Author.Needs.{needs}
 use Rattle.handles.proofs.arena.release.Statement.{statement}
 use Rattle.handles.proofs.arena.release.Tie as tie
-use Rattle.handles.proofs.arena.release.Reads as reads
-use Rattle.handles.proofs.arena.release.Lts as lts
-use Rattle.handles.proofs.arena.lookup.Reads as lookup-reads
-use Rattle.handles.proofs.arena.release_live.Reads as release-live-reads
 
--- src/arena.rt:207:11
 lookup-requires : tie.Need-lookup-requires
 lookup-requires c κs = search needs
 
--- src/arena.rt:208:29
 enum-told : tie.Need-enum-told
 enum-told c = search needs
 
--- src/arena.rt:208:29
 release-live-requires : tie.Need-release-live-requires
 release-live-requires c κs = search needs
 
--- src/arena.rt:209:57
 enum-told-2 : tie.Need-enum-told-2
 enum-told-2 c = search needs
 
--- src/arena.rt:210:55
 enum-told-3 : tie.Need-enum-told-3
 enum-told-3 c = search needs
 
--- src/arena.rt:204:1
 returns : tie.Need-returns
 unfolding released
 returns c =
-    simp (← c .release-live .ensures,
+    simp (
+      ← c .release-live .ensures,
       c .before .enum-told .given .1,
-      ← c .before .before .before .lookup .ensures)
+      ← c .before .before .before .lookup .ensures,
+    )
 
--- src/arena.rt:204:1
 returns-2 : tie.Need-returns-2
 unfolding released
 returns-2 c =
-    simp (c .enum-told2 .given .1,
-      ← c .before .before .lookup .ensures)
+    simp (
+      c .enum-told2 .given .1,
+      ← c .before .before .lookup .ensures,
+    )
 
--- src/arena.rt:204:1
 returns-3 : tie.Need-returns-3
 unfolding released
 returns-3 c =
-    simp (c .enum-told3 .given .1,
-      ← c .before .before .lookup .ensures)
+    simp (
+      c .enum-told3 .given .1,
+      ← c .before .before .lookup .ensures,
+    )
 
 pub release-spec : {M : Type 1} → statement M
 release-spec =

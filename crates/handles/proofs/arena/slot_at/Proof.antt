@@ -1,23 +1,18 @@
+-- A read of a slot is the element of the list, and past the end the default.
 use Rattle.lists.proofs.ListLaws.{past-get}
 use borrow.Author.Needs.{needs}
 use Rattle.handles.proofs.arena.slot_at.Statement.{statement}
 use Rattle.handles.proofs.arena.slot_at.Tie as tie
-use Rattle.handles.proofs.arena.slot_at.Reads as reads
-use Rattle.handles.proofs.arena.slot_at.Lts as lts
 
--- src/arena.rt:47:9
 mul-result : tie.Need-mul-result
 mul-result c = search needs
 
--- src/arena.rt:47:9
 array-copy-out-result : tie.Need-array-copy-out-result
 array-copy-out-result c = search needs
 
--- src/arena.rt:43:1
 returns : tie.Need-returns
 returns c = search needs
 
--- src/arena.rt:43:1
 returns-2 : tie.Need-returns-2
 returns-2 c = search (needs, past-get)
 

@@ -1,23 +1,23 @@
+-- A slot is live to a generation by the two tests of the definition, in its order.
 use borrow.Author.Tests.{eq-eqb, ne-eqb}
 use borrow.Author.Needs.{needs}
 use Rattle.handles.proofs.arena.status_of.Statement.{statement}
 use Rattle.handles.proofs.arena.status_of.Tie as tie
-use Rattle.handles.proofs.arena.status_of.Reads as reads
-use Rattle.handles.proofs.arena.status_of.Lts as lts
 
--- src/arena.rt:91:13
 returns : tie.Need-returns
 returns c =
-    simp (eq-eqb _ _ (c .if2 .taken),
-      c .before .before .if1 .taken)
+    simp (
+      eq-eqb _ _ (c .if2 .taken),
+      c .before .before .if1 .taken,
+    )
 
--- src/arena.rt:86:1
 returns-2 : tie.Need-returns-2
 returns-2 c =
-    simp (ne-eqb _ _ (c .if2 .left),
-      c .before .before .if1 .taken)
+    simp (
+      ne-eqb _ _ (c .if2 .left),
+      c .before .before .if1 .taken,
+    )
 
--- src/arena.rt:86:1
 returns-3 : tie.Need-returns-3
 returns-3 c = search needs
 

@@ -1,41 +1,34 @@
+-- The three counts are within the table and the limit, each by its own test.
 use Rattle.handles.specs.WellFormed.{countsWithin}
 use borrow.Author.Needs.{needs}
 use Rattle.handles.proofs.well_formed.counts_within.Statement.{statement}
 use Rattle.handles.proofs.well_formed.counts_within.Tie as tie
-use Rattle.handles.proofs.well_formed.counts_within.Reads as reads
-use Rattle.handles.proofs.well_formed.counts_within.Lts as lts
-use Rattle.handles.proofs.well_formed.is_within.Reads as is-within-reads
-use Rattle.lists.proofs.both.Reads as both-reads
 
--- src/well_formed.rt:23:9
 is-within-requires : tie.Need-is-within-requires
 is-within-requires c κs = search needs
 
--- src/well_formed.rt:24:9
 is-within-requires-2 : tie.Need-is-within-requires-2
 is-within-requires-2 c κs = search needs
 
--- src/well_formed.rt:25:9
 is-within-requires-3 : tie.Need-is-within-requires-3
 is-within-requires-3 c κs = search needs
 
--- src/well_formed.rt:26:16
 both-requires : tie.Need-both-requires
 both-requires c κs = search needs
 
--- src/well_formed.rt:26:5
 both-requires-2 : tie.Need-both-requires-2
 both-requires-2 c κs = search needs
 
--- src/well_formed.rt:20:1
 returns : tie.Need-returns
 unfolding countsWithin
 returns c =
-    simp (← c .both2 .ensures,
+    simp (
+      ← c .both2 .ensures,
       ← c .before .both .ensures,
       ← c .before .before .is-within3 .ensures,
       ← c .before .before .before .is-within2 .ensures,
-      ← c .before .before .before .before .is-within .ensures)
+      ← c .before .before .before .before .is-within .ensures,
+    )
 
 pub counts-within-spec : {M : Type 1} → statement M
 counts-within-spec =

@@ -1,5 +1,6 @@
+-- The loop gathers whether every entry passed is the index of a used slot.
 use Prim.Native.Nat.{_≤_, _-_}
-use mathlib.Core.Path.{_≡_, refl, sym, ap, _∙_}
+use mathlib.Core.Path.{_≡_, refl, sym, _∙_}
 use native.Mathlib.Omega.{arith}
 use borrow.Author.Needs.{needs}
 use lib.ListN.{take}
@@ -8,9 +9,6 @@ use Rattle.lists.proofs.ListLaws.{all-take}
 use Rattle.handles.specs.WellFormed.{isBelow}
 use Rattle.handles.proofs.well_formed.entries_below.Statement.{statement}
 use Rattle.handles.proofs.well_formed.entries_below.Tie as tie
-use Rattle.handles.proofs.well_formed.entries_below.Reads as reads
-use Rattle.handles.proofs.well_formed.entries_below.Lts as lts
-use Rattle.lists.proofs.both.Reads as both-reads
 
 abbrev Inv-loop : tie.InvT-loop
 Inv-loop freed used free ok₀ i₀ ok i = (i ≤ freed) × (ok ≡ all (isBelow used) (take i free))
@@ -18,39 +16,30 @@ Inv-loop freed used free ok₀ i₀ ok i = (i ≤ freed) × (ok ≡ all (isBelow
 abbrev μ-loop : tie.MeasureT-loop
 μ-loop freed used free ok₀ i₀ ok i = freed - i
 
--- src/well_formed.rt:65:5
 loop-holds : tie.Need-loop-holds Inv-loop μ-loop
 loop-holds c = (omega arith, refl)
 
--- src/well_formed.rt:66:21
 mul-index : tie.Need-mul-index Inv-loop μ-loop
 mul-index c = search needs
 
--- src/well_formed.rt:66:21
 array-read-index : tie.Need-array-read-index Inv-loop μ-loop
 array-read-index c = search needs
 
--- src/well_formed.rt:67:24
 cast-both : tie.Need-cast-both Inv-loop μ-loop
 cast-both c = search needs
 
--- src/well_formed.rt:67:9
 both-requires : tie.Need-both-requires Inv-loop μ-loop
 both-requires c κs = search needs
 
--- src/well_formed.rt:68:9
 add-i : tie.Need-add-i Inv-loop μ-loop
 add-i c = omega arith
 
--- src/well_formed.rt:65:5
 loop-less : tie.Need-loop-less Inv-loop μ-loop
 loop-less c = omega arith
 
--- src/well_formed.rt:65:5
 loop-again : tie.Need-loop-again Inv-loop μ-loop
 loop-again c = (omega arith, c .both .ensures ∙ rw (c .before .before .loop .inv .1) (sym (all-take (isBelow _) (c .before .before .before .args .t1) (c .before .before .loop .i) 0 (search needs))))
 
--- src/well_formed.rt:59:1
 returns : tie.Need-returns Inv-loop μ-loop
 returns c =
     let done : c .before .loop .i ≡ c .before .before .args .freed = omega arith in

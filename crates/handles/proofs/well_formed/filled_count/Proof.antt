@@ -1,3 +1,4 @@
+-- The loop counts the filled ones of the slots passed.
 use Prim.Native.Nat.{_≤_, _-_}
 use mathlib.Core.Path.{_≡_, sym, ap, _∙_}
 use mathlib.Core.Logic.{⊎-elim}
@@ -8,8 +9,6 @@ use Rattle.lists.proofs.BelowLaws.{count-none, count-more, count-le}
 use Rattle.handles.specs.WellFormed.{isFilled}
 use Rattle.handles.proofs.well_formed.filled_count.Statement.{statement}
 use Rattle.handles.proofs.well_formed.filled_count.Tie as tie
-use Rattle.handles.proofs.well_formed.filled_count.Reads as reads
-use Rattle.handles.proofs.well_formed.filled_count.Lts as lts
 
 abbrev Inv-loop : tie.InvT-loop
 Inv-loop used slots count₀ i₀ count i = (i ≤ used) × (count ≡ countBelow (isFilled slots) i)
@@ -17,40 +16,33 @@ Inv-loop used slots count₀ i₀ count i = (i ≤ used) × (count ≡ countBelo
 abbrev μ-loop : tie.MeasureT-loop
 μ-loop used slots count₀ i₀ count i = used - i
 
--- src/well_formed.rt:49:5
 loop-holds : tie.Need-loop-holds Inv-loop μ-loop
 loop-holds c = (omega arith, sym (count-none _))
 
--- src/well_formed.rt:50:17
 mul-s : tie.Need-mul-s Inv-loop μ-loop
 mul-s c = search needs
 
--- src/well_formed.rt:50:17
 array-copy-out-s : tie.Need-array-copy-out-s Inv-loop μ-loop
 array-copy-out-s c = search needs
 
--- src/well_formed.rt:52:13
 add-count : tie.Need-add-count Inv-loop μ-loop
 add-count c = omega (arith, count-le (isFilled (c .before .before .before .before .args .t1)) (c .before .before .before .loop .i))
 
--- src/well_formed.rt:54:9
 add-i : tie.Need-add-i Inv-loop μ-loop
 add-i c = omega arith
 
--- src/well_formed.rt:49:5
 loop-less : tie.Need-loop-less Inv-loop μ-loop
 loop-less c = omega arith
 
--- src/well_formed.rt:49:5
 loop-again : tie.Need-loop-again Inv-loop μ-loop
-loop-again c = let counted = c .before .before .before .loop .inv .1 in
-    (omega arith,
-    ⊎-elim
-    (λ w. w .1 ∙ simp (count-more, w .0 .taken, ← counted))
-    (λ w. w .1 ∙ simp (count-more, w .0 .left, ← counted))
-    (c .if1 .came))
+loop-again c = let counted = c .before .before .before .loop .inv .1 in (
+  omega arith,
+  ⊎-elim
+      (λ w. w .1 ∙ simp (count-more, w .0 .taken, ← counted))
+      (λ w. w .1 ∙ simp (count-more, w .0 .left, ← counted))
+      (c .if1 .came),
+)
 
--- src/well_formed.rt:43:1
 returns : tie.Need-returns Inv-loop μ-loop
 returns c = c .before .loop .inv .1 ∙ ap (countBelow _) (omega arith)
 

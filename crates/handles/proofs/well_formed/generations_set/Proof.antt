@@ -1,3 +1,4 @@
+-- The loop gathers, below each index, whether every slot passed has a generation.
 use Prim.Native.Nat.{_≤_, _-_}
 use mathlib.Core.Path.{_≡_, sym, ap, _∙_}
 use native.Mathlib.Omega.{arith}
@@ -7,9 +8,6 @@ use Rattle.lists.proofs.BelowLaws.{all-none, all-more}
 use Rattle.handles.specs.WellFormed.{hasGeneration}
 use Rattle.handles.proofs.well_formed.generations_set.Statement.{statement}
 use Rattle.handles.proofs.well_formed.generations_set.Tie as tie
-use Rattle.handles.proofs.well_formed.generations_set.Reads as reads
-use Rattle.handles.proofs.well_formed.generations_set.Lts as lts
-use Rattle.lists.proofs.both.Reads as both-reads
 
 abbrev Inv-loop : tie.InvT-loop
 Inv-loop used slots ok₀ i₀ ok i = (i ≤ used) × (ok ≡ allBelow (hasGeneration slots) i)
@@ -17,35 +15,27 @@ Inv-loop used slots ok₀ i₀ ok i = (i ≤ used) × (ok ≡ allBelow (hasGener
 abbrev μ-loop : tie.MeasureT-loop
 μ-loop used slots ok₀ i₀ ok i = used - i
 
--- src/well_formed.rt:35:5
 loop-holds : tie.Need-loop-holds Inv-loop μ-loop
 loop-holds c = (omega arith, sym (all-none _))
 
--- src/well_formed.rt:36:17
 mul-s : tie.Need-mul-s Inv-loop μ-loop
 mul-s c = search needs
 
--- src/well_formed.rt:36:17
 array-copy-out-s : tie.Need-array-copy-out-s Inv-loop μ-loop
 array-copy-out-s c = search needs
 
--- src/well_formed.rt:37:9
 both-requires : tie.Need-both-requires Inv-loop μ-loop
 both-requires c κs = search needs
 
--- src/well_formed.rt:38:9
 add-i : tie.Need-add-i Inv-loop μ-loop
 add-i c = omega arith
 
--- src/well_formed.rt:35:5
 loop-less : tie.Need-loop-less Inv-loop μ-loop
 loop-less c = omega arith
 
--- src/well_formed.rt:35:5
 loop-again : tie.Need-loop-again Inv-loop μ-loop
 loop-again c = (omega arith, simp (all-more, c .both .ensures, c .before .before .before .before .loop .inv .1))
 
--- src/well_formed.rt:29:1
 returns : tie.Need-returns Inv-loop μ-loop
 returns c = c .before .loop .inv .1 ∙ ap (allBelow _) (omega arith)
 

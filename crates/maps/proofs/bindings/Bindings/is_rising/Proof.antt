@@ -5,14 +5,15 @@ use native.Mathlib.Omega.{arith}
 use borrow.Author.Needs.{needs}
 use lib.ListN.{length}
 use Rattle.lists.specs.Tables.{entriesOf}
+use Rattle.lists.proofs.LoopLaws.{Compared, rising-fails, rising-on, rising-stop}
+use Rattle.maps.specs.Keys.{keyLt}
 use Rattle.maps.specs.Bindings.{bindings, keyOfBinding}
-use Rattle.maps.proofs.MapTableLaws.{Compared, rising-fails, rising-on, rising-stop}
 use Rattle.maps.proofs.BindingLaws.{few}
 use Rattle.maps.proofs.bindings.Bindings.is_rising.Statement.{statement}
 use Rattle.maps.proofs.bindings.Bindings.is_rising.Tie as tie
 
 abbrev Inv-loop : tie.InvT-loop
-Inv-loop self n i₀ i = (i ≤ n) × (n ≤ 128) × Compared bindings keyOfBinding self i
+Inv-loop self n i₀ i = (i ≤ n) × (n ≤ 128) × Compared bindings self keyOfBinding keyLt i
 
 abbrev μ-loop : tie.MeasureT-loop
 μ-loop self n i₀ i = n - i
@@ -49,7 +50,7 @@ returns c =
     let l = c .before .before .before .before .before .loop in
     let a = c .before .before .before .before .before .before .before .args in
     let within : l .i + 1 < length (entriesOf bindings (a .t1)) = omega arith in
-    sym (rising-fails bindings keyOfBinding (a .t1) (l .i) _ within (l .inv .2) (sym (c .before .precedes .ensures) ∙ c .if1 .left))
+    sym (rising-fails bindings (a .t1) keyOfBinding keyLt (l .i) _ within (l .inv .2) (sym (c .before .precedes .ensures) ∙ c .if1 .left))
 
 add-i : tie.Need-add-i Inv-loop μ-loop
 add-i c = omega arith
@@ -62,12 +63,12 @@ loop-again c =
     let l = c .before .before .before .before .before .loop in
     let a = c .before .before .before .before .before .before .before .args in
     let within : l .i + 1 < length (entriesOf bindings (a .t1)) = omega arith in
-    (omega arith, omega arith, rising-on bindings keyOfBinding (a .t1) (l .i) _ within (l .inv .2) (sym (c .before .precedes .ensures) ∙ c .if1 .taken))
+    (omega arith, omega arith, rising-on bindings (a .t1) keyOfBinding keyLt (l .i) _ within (l .inv .2) (sym (c .before .precedes .ensures) ∙ c .if1 .taken))
 
 returns-2 : tie.Need-returns-2 Inv-loop μ-loop
 returns-2 c =
     let a = c .before .before .before .args in
-    sym (rising-stop bindings keyOfBinding (a .t1) (c .before .loop .i) (c .before .loop .inv .2) (omega arith))
+    sym (rising-stop bindings (a .t1) keyOfBinding keyLt (c .before .loop .i) (c .before .loop .inv .2) (omega arith))
 
 pub is-rising-spec : {M : Type 1} → statement M
 is-rising-spec =

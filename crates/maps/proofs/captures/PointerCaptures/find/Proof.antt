@@ -1,18 +1,25 @@
 -- `PointerCaptures::find` meets its contract: what is still to be searched answers as the whole.
 use Prim.Native.Nat.{_≤_, _<_, _-_}
+use mathlib.Core.Bool.{Bool}
 use mathlib.Core.Path.{refl, sym, ap, _∙_}
 use native.Mathlib.Omega.{arith}
 use borrow.Author.Needs.{needs}
 use lib.ListN.{length}
 use Rattle.lists.specs.Tables.{entriesOf}
+use Rattle.lists.proofs.LoopLaws.{Searched, search-here, search-next, search-end}
+use Rattle.maps.specs.Keys.{keySame}
+use Rattle.maps.specs.declared.captures.Capture.{Capture}
+use Rattle.maps.specs.declared.keys.MapKey.{MapKey}
 use Rattle.maps.specs.Captures.{captures, captureKey, surfaceOf}
-use Rattle.maps.proofs.MapTableLaws.{Searched, search-here, search-next, search-end}
 use Rattle.maps.proofs.CaptureLaws.{few}
 use Rattle.maps.proofs.captures.PointerCaptures.find.Statement.{statement}
 use Rattle.maps.proofs.captures.PointerCaptures.find.Tie as tie
 
+abbrev hasKey : MapKey → Capture → Bool
+hasKey key e = keySame key (captureKey e)
+
 abbrev Inv-loop : tie.InvT-loop
-Inv-loop key self n i₀ i = (i ≤ n) × (n ≤ 32) × Searched captures captureKey self key i
+Inv-loop key self n i₀ i = (i ≤ n) × (n ≤ 32) × Searched captures self (hasKey key) i
 
 abbrev μ-loop : tie.MeasureT-loop
 μ-loop key self n i₀ i = n - i
@@ -37,7 +44,7 @@ returns c =
     let l = c .before .before .before .before .before .loop in
     let a = c .before .before .before .before .before .before .before .args in
     let within : l .i < length (entriesOf captures (a .t1)) = omega arith in
-    sym (ap surfaceOf (search-here captures captureKey (a .t1) (a .key) (l .i) _ within (l .inv .2) (sym (c .before .before .has-key .ensures) ∙ c .before .if1 .taken)))
+    sym (ap surfaceOf (search-here captures (a .t1) (hasKey (a .key)) (l .i) _ within (l .inv .2) (sym (c .before .before .has-key .ensures) ∙ c .before .if1 .taken)))
 
 add-i : tie.Need-add-i Inv-loop μ-loop
 add-i c = omega arith
@@ -50,12 +57,12 @@ loop-again c =
     let l = c .before .before .before .before .loop in
     let a = c .before .before .before .before .before .before .args in
     let within : l .i < length (entriesOf captures (a .t1)) = omega arith in
-    (omega arith, omega arith, search-next captures captureKey (a .t1) (a .key) (l .i) _ within (l .inv .2) (sym (c .before .has-key .ensures) ∙ c .if1 .left))
+    (omega arith, omega arith, search-next captures (a .t1) (hasKey (a .key)) (l .i) _ within (l .inv .2) (sym (c .before .has-key .ensures) ∙ c .if1 .left))
 
 returns-2 : tie.Need-returns-2 Inv-loop μ-loop
 returns-2 c =
     let a = c .before .before .before .args in
-    sym (ap surfaceOf (search-end captures captureKey (a .t1) (a .key) (c .before .loop .i) (c .before .loop .inv .2) (omega arith)))
+    sym (ap surfaceOf (search-end captures (a .t1) (hasKey (a .key)) (c .before .loop .i) (c .before .loop .inv .2) (omega arith)))
 
 pub find-spec : {M : Type 1} → statement M
 find-spec =

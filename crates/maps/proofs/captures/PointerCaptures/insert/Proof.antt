@@ -7,10 +7,11 @@ use borrow.Author.Needs.{needs}
 use lib.ListN.{length}
 use Rattle.lists.specs.Tables.{entriesOf, packed}
 use Rattle.lists.specs.Maps.{insert}
+use Rattle.lists.proofs.LoopLaws.{lower, push-room, pushed-is, extend-room, extended-is}
 use Rattle.maps.specs.Keys.{keyLt}
 use Rattle.maps.specs.MapTables.{accepts}
 use Rattle.maps.specs.Captures.{captures, captureKey}
-use Rattle.maps.proofs.MapTableLaws.{lower, accepted-fits, push-room, pushed-is, extend-room, extended-is}
+use Rattle.maps.proofs.MapTableLaws.{accepted-fits}
 use Rattle.maps.proofs.CaptureLaws.{few}
 use Rattle.maps.proofs.captures.PointerCaptures.insert.Statement.{statement}
 use Rattle.maps.proofs.captures.PointerCaptures.insert.Tie as tie
@@ -30,24 +31,24 @@ accepted c = sym (c .before .has-room .ensures) ∙ c .if1 .taken
 fits : (c : tie.Then1) → length (insert captureKey keyLt (c .before .before .args .entry) (entriesOf captures (c .before .before .args .self))) ≤ 32
 fits c = let s = c .before .before in accepted-fits captures captureKey (s .args .self) (s .args .entry) (few (s .args .self) (s .good .0)) (accepted c)
 
-low-is : (c : tie.After-retain) → c .retain .result ≡ packed captures (lower captures captureKey (c .before .before .before .before .args .self) (c .before .before .before .before .args .entry))
+low-is : (c : tie.After-retain) → c .retain .result ≡ packed captures (lower captures (c .before .before .before .before .args .self) captureKey keyLt (c .before .before .before .before .args .entry))
 low-is c = c .retain .ensures ∙ rw (c .before .key-of .ensures)
 
 push-requires : tie.Need-push-requires
-push-requires c κs = push-room captures captureKey _ (c .before .before .before .before .args .entry) (fits (c .before .before)) (c .retain .result) (low-is c)
+push-requires c κs = push-room captures _ captureKey keyLt (c .before .before .before .before .args .entry) (fits (c .before .before)) (c .retain .result) (low-is c)
 
-mid-is : (c : tie.After-push) → c .push .result ≡ packed captures (lower captures captureKey (c .before .before .before .before .before .args .self) (c .before .before .before .before .before .args .entry) ++ (c .before .before .before .before .before .args .entry ∷ []))
-mid-is c = let s = c .before .before .before .before .before in c .push .ensures ∙ pushed-is captures captureKey (s .args .self) (s .args .entry) (fits (c .before .before .before)) (c .before .retain .result) (low-is (c .before))
+mid-is : (c : tie.After-push) → c .push .result ≡ packed captures (lower captures (c .before .before .before .before .before .args .self) captureKey keyLt (c .before .before .before .before .before .args .entry) ++ (c .before .before .before .before .before .args .entry ∷ []))
+mid-is c = let s = c .before .before .before .before .before in c .push .ensures ∙ pushed-is captures (s .args .self) captureKey keyLt (s .args .entry) (fits (c .before .before .before)) (c .before .retain .result) (low-is (c .before))
 
 extend-requires : tie.Need-extend-requires
 extend-requires c κs =
     let s = c .before .before .before .before .before in
-    rw (c .before .before .key-of .ensures) (extend-room captures captureKey (s .args .self) (s .args .entry) (fits (c .before .before .before)) (c .push .result) (mid-is c))
+    rw (c .before .before .key-of .ensures) (extend-room captures (s .args .self) captureKey keyLt (s .args .entry) (fits (c .before .before .before)) (c .push .result) (mid-is c))
 
 returns : tie.Need-returns
 returns c =
     let s = c .before .before .before .before .before .before in
-    rw (accepted (c .before .before .before .before), c .extend .ensures, c .before .before .before .key-of .ensures, extended-is captures captureKey (s .args .self) (s .args .entry) (c .before .push .result) (mid-is (c .before)))
+    rw (accepted (c .before .before .before .before), c .extend .ensures, c .before .before .before .key-of .ensures, extended-is captures (s .args .self) captureKey keyLt (s .args .entry) (c .before .push .result) (mid-is (c .before)))
 
 returns-2 : tie.Need-returns-2
 returns-2 c = rw (sym (c .before .has-room .ensures) ∙ c .if1 .left)

@@ -7,10 +7,11 @@ use borrow.Author.Needs.{needs}
 use lib.ListN.{length}
 use Rattle.lists.specs.Tables.{entriesOf, packed}
 use Rattle.lists.specs.Maps.{insert}
+use Rattle.lists.proofs.LoopLaws.{lower, push-room, pushed-is, extend-room, extended-is}
 use Rattle.maps.specs.Keys.{keyLt}
 use Rattle.maps.specs.MapTables.{accepts}
 use Rattle.maps.specs.Sequences.{sequences, sequenceKey}
-use Rattle.maps.proofs.MapTableLaws.{lower, accepted-fits, push-room, pushed-is, extend-room, extended-is}
+use Rattle.maps.proofs.MapTableLaws.{accepted-fits}
 use Rattle.maps.proofs.SequenceLaws.{few}
 use Rattle.maps.proofs.sequences.DeviceSequences.insert.Statement.{statement}
 use Rattle.maps.proofs.sequences.DeviceSequences.insert.Tie as tie
@@ -30,24 +31,24 @@ accepted c = sym (c .before .has-room .ensures) ∙ c .if1 .taken
 fits : (c : tie.Then1) → length (insert sequenceKey keyLt (c .before .before .args .entry) (entriesOf sequences (c .before .before .args .self))) ≤ 32
 fits c = let s = c .before .before in accepted-fits sequences sequenceKey (s .args .self) (s .args .entry) (few (s .args .self) (s .good .0)) (accepted c)
 
-low-is : (c : tie.After-retain) → c .retain .result ≡ packed sequences (lower sequences sequenceKey (c .before .before .before .before .args .self) (c .before .before .before .before .args .entry))
+low-is : (c : tie.After-retain) → c .retain .result ≡ packed sequences (lower sequences (c .before .before .before .before .args .self) sequenceKey keyLt (c .before .before .before .before .args .entry))
 low-is c = c .retain .ensures ∙ rw (c .before .key-of .ensures)
 
 push-requires : tie.Need-push-requires
-push-requires c κs = push-room sequences sequenceKey _ (c .before .before .before .before .args .entry) (fits (c .before .before)) (c .retain .result) (low-is c)
+push-requires c κs = push-room sequences _ sequenceKey keyLt (c .before .before .before .before .args .entry) (fits (c .before .before)) (c .retain .result) (low-is c)
 
-mid-is : (c : tie.After-push) → c .push .result ≡ packed sequences (lower sequences sequenceKey (c .before .before .before .before .before .args .self) (c .before .before .before .before .before .args .entry) ++ (c .before .before .before .before .before .args .entry ∷ []))
-mid-is c = let s = c .before .before .before .before .before in c .push .ensures ∙ pushed-is sequences sequenceKey (s .args .self) (s .args .entry) (fits (c .before .before .before)) (c .before .retain .result) (low-is (c .before))
+mid-is : (c : tie.After-push) → c .push .result ≡ packed sequences (lower sequences (c .before .before .before .before .before .args .self) sequenceKey keyLt (c .before .before .before .before .before .args .entry) ++ (c .before .before .before .before .before .args .entry ∷ []))
+mid-is c = let s = c .before .before .before .before .before in c .push .ensures ∙ pushed-is sequences (s .args .self) sequenceKey keyLt (s .args .entry) (fits (c .before .before .before)) (c .before .retain .result) (low-is (c .before))
 
 extend-requires : tie.Need-extend-requires
 extend-requires c κs =
     let s = c .before .before .before .before .before in
-    rw (c .before .before .key-of .ensures) (extend-room sequences sequenceKey (s .args .self) (s .args .entry) (fits (c .before .before .before)) (c .push .result) (mid-is c))
+    rw (c .before .before .key-of .ensures) (extend-room sequences (s .args .self) sequenceKey keyLt (s .args .entry) (fits (c .before .before .before)) (c .push .result) (mid-is c))
 
 returns : tie.Need-returns
 returns c =
     let s = c .before .before .before .before .before .before in
-    rw (accepted (c .before .before .before .before), c .extend .ensures, c .before .before .before .key-of .ensures, extended-is sequences sequenceKey (s .args .self) (s .args .entry) (c .before .push .result) (mid-is (c .before)))
+    rw (accepted (c .before .before .before .before), c .extend .ensures, c .before .before .before .key-of .ensures, extended-is sequences (s .args .self) sequenceKey keyLt (s .args .entry) (c .before .push .result) (mid-is (c .before)))
 
 returns-2 : tie.Need-returns-2
 returns-2 c = rw (sym (c .before .has-room .ensures) ∙ c .if1 .left)
