@@ -63,7 +63,7 @@ impl Arena {
 }
 
 // Past the end of the table a read is an empty slot or 0, and a write does nothing.
-fn slot_at(slots: [Slot; SLOTS], i: usize) -> Slot
+pub fn slot_at(slots: [Slot; SLOTS], i: usize) -> Slot
     ensures { λ r. ⌜ r ≡ getD slots i noSlot ⌝ }
 {
     if i < SLOTS {

@@ -1,0 +1,3 @@
+pub mod LayerLaws
+pub mod TraceLaws
+pub mod DamageLaws

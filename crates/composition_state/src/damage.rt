@@ -1,0 +1,199 @@
+// The damage test, 42: whether a registry that is handed in is one that calls could have left.
+ghost use mathlib.Core.Path.{_≡_};
+ghost use Prim.Native.Nat.{_≤_, _<_};
+ghost use lib.ListN.{length};
+ghost use Rattle.lists.specs.Lists.{all};
+ghost use Rattle.lists.specs.Tables.{entriesOf};
+ghost use Rattle.composition_state.specs.Traces.{traces};
+ghost use Rattle.composition_state.specs.Damage.{limitsSound, arenasSound, traceSound, tracesSound, layersSound, viewSound, slotSound, viewsSound, isSound, damageRefusal};
+use crate::error::CompositionError;
+use crate::error::Outcome;
+use crate::registry::CompositionLimits;
+use crate::registry::CompositionRegistry;
+use crate::surface::SurfaceTable;
+use crate::trace::CompositionTrace;
+use crate::trace::Traces;
+use crate::view::ViewRecord;
+use crate::view::ViewTable;
+use handles::arena::Arena;
+use handles::arena::SlotStatus;
+use handles::handle::GenerationalHandle;
+use handles::well_formed::is_well_formed;
+use lists::both;
+
+fn are_limits_sound(limits: CompositionLimits, first_generation: u32) -> bool
+    ensures { λ r. ⌜ r ≡ limitsSound limits «first_generation» ⌝ }
+{
+    if crate::start::any_zero(limits) {
+        return false;
+    }
+    if crate::start::any_over_port(limits) {
+        return false;
+    }
+    first_generation != 0
+}
+
+fn are_arenas_sound(
+    limits: CompositionLimits,
+    windows: Arena,
+    views: Arena,
+    surfaces: Arena,
+) -> bool
+    ensures { λ r. ⌜ r ≡ arenasSound limits windows views surfaces ⌝ }
+{
+    if is_well_formed(windows, limits.max_windows as usize) {
+        if is_well_formed(views, limits.max_views as usize) {
+            return is_well_formed(surfaces, limits.max_surfaces as usize);
+        }
+    }
+    false
+}
+
+fn is_trace_sound(trace: CompositionTrace) -> bool
+    ensures { λ r. ⌜ r ≡ traceSound trace ⌝ }
+{
+    let hits = trace.hits;
+    let deliveries = trace.deliveries;
+    both(hits.len <= 16, deliveries.len <= 16)
+}
+
+fn count_traces(stored: Traces) -> usize
+    ensures { λ r. ⌜ r ≡ length (entriesOf traces stored) ⌝ }
+{
+    let n = stored.len;
+    if n < 32 {
+        return n;
+    }
+    32
+}
+
+fn are_traces_sound(limit: u64, stored: Traces) -> bool
+    ensures { λ r. ⌜ r ≡ tracesSound limit stored ⌝ }
+{
+    let n = count_traces(stored);
+    let mut ok = true;
+    let mut i = 0;
+    while i < n {
+        let trace = stored.items[i];
+        let sound = is_trace_sound(trace);
+        ok = both(ok, sound);
+        i += 1;
+    }
+    both((stored.len as u64) <= limit, ok)
+}
+
+fn are_layers_sound(
+    surfaces: SurfaceTable,
+    limit: u64,
+    view: GenerationalHandle,
+    v: ViewRecord,
+) -> bool
+    ensures { λ r. ⌜ r ≡ layersSound surfaces limit view v ⌝ }
+{
+    let layers = v.surfaces;
+    let records = surfaces.records;
+    let within = (layers.len as u64) <= limit;
+    let of_view = layers.are_of(surfaces, view);
+    let rising = layers.is_rising(records);
+    both(within, both(of_view, rising))
+}
+
+fn is_view_sound(
+    windows: Arena,
+    surfaces: SurfaceTable,
+    limit: u64,
+    view: GenerationalHandle,
+    v: ViewRecord,
+) -> bool
+    ensures { λ r. ⌜ r ≡ viewSound windows surfaces limit view v ⌝ }
+{
+    let window = v.window;
+    let captures = v.pointer_captures;
+    match handles::arena::lookup(windows, window) {
+        SlotStatus::Live => {
+            let layered = are_layers_sound(surfaces, limit, view, v);
+            let within = captures.len <= 32;
+            let rising = captures.is_rising();
+            both(layered, both(within, rising))
+        }
+        SlotStatus::Invalid => false,
+        SlotStatus::Stale => false,
+    }
+}
+
+fn is_slot_sound(
+    windows: Arena,
+    surfaces: SurfaceTable,
+    limit: u64,
+    views: ViewTable,
+    i: usize,
+) -> bool
+    requires { ⌜ i < 64 ⌝ }
+    ensures { λ r. ⌜ r ≡ slotSound windows surfaces limit views i ⌝ }
+{
+    let arena = views.arena;
+    let slots = arena.slots;
+    let slot = handles::arena::slot_at(slots, i);
+    if slot.filled {
+        let view = GenerationalHandle {
+            index: i as u32,
+            generation: slot.generation,
+        };
+        let v = views.record(view);
+        return is_view_sound(windows, surfaces, limit, view, v);
+    }
+    true
+}
+
+fn are_views_sound(windows: Arena, surfaces: SurfaceTable, limit: u64, views: ViewTable) -> bool
+    requires { ⌜ views .arena .used ≤ 64 ⌝ }
+    ensures { λ r. ⌜ r ≡ viewsSound windows surfaces limit views ⌝ }
+{
+    let arena = views.arena;
+    let n = arena.used;
+    let mut ok = true;
+    let mut i: usize = 0;
+    while i < n {
+        let sound = is_slot_sound(windows, surfaces, limit, views, i);
+        ok = both(ok, sound);
+        i += 1;
+    }
+    ok
+}
+
+impl CompositionRegistry {
+    pub fn is_sound(self) -> bool
+        ensures { λ r. ⌜ r ≡ isSound self ⌝ }
+    {
+        let limits = self.limits;
+        let windows = self.windows;
+        let views = self.views;
+        let surfaces = self.surfaces;
+        let shortcuts = self.shortcuts;
+        let traces = self.traces;
+        let view_arena = views.arena;
+        let surface_arena = surfaces.arena;
+        if are_limits_sound(limits, self.first_generation) {
+            if are_arenas_sound(limits, windows, view_arena, surface_arena) {
+                if shortcuts.len <= 256 {
+                    if are_traces_sound(limits.max_trace_entries, traces) {
+                        return are_views_sound(
+                            windows,
+                            surfaces,
+                            limits.max_surfaces_per_view,
+                            views,
+                        );
+                    }
+                }
+            }
+        }
+        false
+    }
+
+    // What every call refuses first.
+    pub fn damage(self) -> Outcome
+        ensures { λ r. ⌜ r ≡ damageRefusal self ⌝ }
+    {
+        crate::error::refuse_if(!self.is_sound(), CompositionError::Damaged)
+    }
+}

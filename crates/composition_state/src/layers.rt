@@ -1,0 +1,188 @@
+// The layers of a view: its panels from the lowest z_order to the highest, ties by handle.
+ghost use mathlib.Core.Path.{_≡_};
+ghost use mathlib.Core.List.{[], _++_};
+ghost use Prim.Native.Nat.{_+_, _≤_, _<_};
+ghost use lib.ListN.{length};
+ghost use lib.Signed.{ltZ};
+ghost use Rattle.lists.specs.Lists.{keep, all};
+ghost use Rattle.lists.specs.Tables.{entriesOf, packed, pushed};
+ghost use Rattle.composition_state.specs.Layers.{layers, layerLt, layerPasses, layersWith, layersWithout, layersRise, isLayerOf};
+use crate::surface::SurfaceDescriptor;
+use crate::surface::SurfaceRecord;
+use crate::surface::SurfaceTable;
+use handles::arena::SlotStatus;
+use handles::handle::GenerationalHandle;
+
+pub struct Layers {
+    pub items: [GenerationalHandle; 16],
+    pub len: usize,
+}
+
+// Which layers a pass keeps: those below a panel, above it, or all others.
+pub enum LayerTest {
+    Below(GenerationalHandle),
+    Above(GenerationalHandle),
+    Other(GenerationalHandle),
+}
+
+fn is_lower(a: SurfaceRecord, b: SurfaceRecord) -> bool
+    ensures { λ r. ⌜ r ≡ ltZ (a .descriptor .«z_order») (b .descriptor .«z_order») ⌝ }
+{
+    let low = a.descriptor;
+    let high = b.descriptor;
+    low.z_order < high.z_order
+}
+
+// Whether a panel lies below another.
+pub fn layer_lt(records: [SurfaceRecord; 64], a: GenerationalHandle, b: GenerationalHandle) -> bool
+    ensures { λ r. ⌜ r ≡ layerLt records a b ⌝ }
+{
+    let low = crate::surface::record_at(records, a.index as usize);
+    let high = crate::surface::record_at(records, b.index as usize);
+    if is_lower(low, high) {
+        return true;
+    }
+    if is_lower(high, low) {
+        return false;
+    }
+    handles::handle::handle_lt(a, b)
+}
+
+fn passes(records: [SurfaceRecord; 64], test: LayerTest, at: GenerationalHandle) -> bool
+    ensures { λ r. ⌜ r ≡ layerPasses records test at ⌝ }
+{
+    match test {
+        LayerTest::Below(h) => layer_lt(records, at, h),
+        LayerTest::Above(h) => layer_lt(records, h, at),
+        LayerTest::Other(h) => !handles::handle::same_handle(h, at),
+    }
+}
+
+// Whether a layer is a live panel of a view.
+fn is_layer_of(surfaces: SurfaceTable, view: GenerationalHandle, at: GenerationalHandle) -> bool
+    ensures { λ r. ⌜ r ≡ isLayerOf surfaces view at ⌝ }
+{
+    let arena = surfaces.arena;
+    match handles::arena::lookup(arena, at) {
+        SlotStatus::Live => {
+            let descriptor = surfaces.descriptor(at);
+            let owner = descriptor.view;
+            handles::handle::same_handle(owner, view)
+        }
+        SlotStatus::Invalid => false,
+        SlotStatus::Stale => false,
+    }
+}
+
+impl Layers {
+    pub fn new() -> Self
+        ensures { λ r. ⌜ r ≡ packed layers [] ⌝ }
+    {
+        let none = GenerationalHandle {
+            index: 0,
+            generation: 0,
+        };
+        Self {
+            items: [none; 16],
+            len: 0,
+        }
+    }
+
+    pub fn count(self) -> usize
+        ensures { λ r. ⌜ r ≡ length (entriesOf layers self) ⌝ }
+    {
+        let n = self.len;
+        if n < 16 {
+            return n;
+        }
+        16
+    }
+
+    fn push(self, surface: GenerationalHandle) -> Self
+        requires { ⌜ self .len < 16 ⌝ }
+        ensures { λ r. ⌜ r ≡ pushed layers self surface ⌝ }
+    {
+        let at = self.len;
+        let mut next = self;
+        next.items[at] = surface;
+        next.len = at + 1;
+        next
+    }
+
+    // The layers with those of another list that pass a test put after them.
+    fn extend(self, from: Layers, records: [SurfaceRecord; 64], test: LayerTest) -> Self
+        requires { ⌜ self ≡ packed layers (entriesOf layers self) ⌝ }
+        requires { ⌜ length (entriesOf layers self) + length (keep (layerPasses records test) (entriesOf layers from)) ≤ 16 ⌝ }
+        ensures { λ r. ⌜ r ≡ packed layers (entriesOf layers self ++ keep (layerPasses records test) (entriesOf layers from)) ⌝ }
+    {
+        let mut next = self;
+        let n = from.count();
+        let mut i = 0;
+        while i < n {
+            let at = from.items[i];
+            if passes(records, test, at) {
+                next = next.push(at);
+            }
+            i += 1;
+        }
+        next
+    }
+
+    fn retain(self, records: [SurfaceRecord; 64], test: LayerTest) -> Self
+        ensures { λ r. ⌜ r ≡ packed layers (keep (layerPasses records test) (entriesOf layers self)) ⌝ }
+    {
+        Layers::new().extend(self, records, test)
+    }
+
+    // The layers with a panel in its place, or as they were where there is no room.
+    pub fn insert(self, records: [SurfaceRecord; 64], surface: GenerationalHandle) -> Self
+        ensures { λ r. ⌜ r ≡ layersWith records surface self ⌝ }
+    {
+        if self.count() < 16 {
+            let low = self.retain(records, LayerTest::Below(surface));
+            return low.push(surface)
+                .extend(self, records, LayerTest::Above(surface));
+        }
+        self
+    }
+
+    // The layers without a panel.
+    pub fn remove(self, records: [SurfaceRecord; 64], surface: GenerationalHandle) -> Self
+        ensures { λ r. ⌜ r ≡ layersWithout surface self ⌝ }
+    {
+        self.retain(records, LayerTest::Other(surface))
+    }
+
+    // Whether the layers are in layer order, none twice.
+    pub fn is_rising(self, records: [SurfaceRecord; 64]) -> bool
+        ensures { λ r. ⌜ r ≡ layersRise records self ⌝ }
+    {
+        let n = self.count();
+        let mut i = 0;
+        while i + 1 < n {
+            let low = self.items[i];
+            let high = self.items[i + 1];
+            if layer_lt(records, low, high) {} else {
+                return false;
+            }
+            i += 1;
+        }
+        true
+    }
+
+    // Whether each layer is a live panel of a view.
+    pub fn are_of(self, surfaces: SurfaceTable, view: GenerationalHandle) -> bool
+        ensures { λ r. ⌜ r ≡ all (isLayerOf surfaces view) (entriesOf layers self) ⌝ }
+    {
+        let n = self.count();
+        let mut ok = true;
+        let mut i = 0;
+        while i < n {
+            let at = self.items[i];
+            let of_view = is_layer_of(surfaces, view, at);
+            ok = lists::both(ok, of_view);
+            i += 1;
+        }
+        ok
+    }
+}
