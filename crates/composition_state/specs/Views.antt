@@ -1,6 +1,9 @@
 -- Views: their records by slot.
+use Prim.Native.Nat.{ℕ}
+use mathlib.Core.Bool.{cond}
 use mathlib.Core.List.{[]}
 use lib.ListN.{getD, set}
+use lib.Dec.{ltb}
 use Rattle.lists.specs.Tables.{packed}
 use Rattle.geometry.specs.Metrics.{defaultMetrics}
 use Rattle.geometry.specs.declared.metrics.ViewMetrics.{ViewMetrics}
@@ -33,6 +36,10 @@ noView = freshView (handleOf 0 0)
 -- the record of a view, by its slot
 abbrev pub viewAt : ViewTable → GenerationalHandle → ViewRecord
 viewAt t h = getD (t .records) (h .index) noView
+
+-- the used slots that the table has
+abbrev pub viewSlots : ViewTable → ℕ
+viewSlots t = cond (ltb (t .arena .used) 16) (t .arena .used) 16
 
 -- a record with one field changed
 abbrev pub withMetrics : ViewMetrics → ViewRecord → ViewRecord

@@ -1,6 +1,6 @@
 // The registry: one value that holds all windows, views and panels.
 ghost use mathlib.Core.Path.{_≡_};
-ghost use Rattle.composition_state.specs.Registry.{withWindows, withViews, withSurfaces, withShortcuts, windowRefusal, conflictRefusal, answered, advanced};
+ghost use Rattle.composition_state.specs.Registry.{withWindows, withViews, withSurfaces, withShortcuts, windowRefusal, conflictRefusal, advanced, settled};
 use crate::error::CompositionError;
 use crate::error::Outcome;
 use crate::shortcut::Shortcuts;
@@ -87,16 +87,6 @@ impl CompositionRegistry {
         next
     }
 
-    // The registry as it came, with the refusal.
-    pub fn refused(self, outcome: Outcome) -> Changed
-        ensures { λ r. ⌜ r ≡ answered outcome self ⌝ }
-    {
-        Changed {
-            outcome,
-            registry: self,
-        }
-    }
-
     // The registry after a change: the revision rises by 1, or 21 follows where it cannot.
     pub fn advance(self) -> Changed
         ensures { λ r. ⌜ r ≡ advanced self ⌝ }
@@ -113,6 +103,19 @@ impl CompositionRegistry {
         Changed {
             outcome: Outcome::Accepted,
             registry: next,
+        }
+    }
+
+    // The registry as it came where the call is refused, and else the changed one, its revision raised.
+    pub fn settle(self, refusal: Outcome, changed: CompositionRegistry) -> Changed
+        ensures { λ r. ⌜ r ≡ settled refusal self changed ⌝ }
+    {
+        match refusal {
+            Outcome::Accepted => changed.advance(),
+            Outcome::Refused(error) => Changed {
+                outcome: Outcome::Refused(error),
+                registry: self,
+            },
         }
     }
 }

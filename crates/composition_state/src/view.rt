@@ -1,7 +1,7 @@
 // Views: their records, and the table of these by slot.
 ghost use mathlib.Core.Path.{_≡_};
 ghost use lib.ListN.{getD, set};
-ghost use Rattle.composition_state.specs.Views.{freshView, noView, viewAt, viewRefusal, withMetrics, withLayers, withFocus, withPointerCapture, withPointerCaptures, withIme, withView, viewsWith, inputState};
+ghost use Rattle.composition_state.specs.Views.{freshView, noView, viewAt, viewRefusal, withMetrics, withLayers, withFocus, withPointerCapture, withPointerCaptures, withIme, withView, viewsWith, viewSlots, inputState};
 use crate::error::CompositionError;
 use crate::error::Outcome;
 use crate::layers::Layers;
@@ -200,6 +200,17 @@ impl ViewTable {
     {
         let records = self.records;
         ViewTable { arena, records }
+    }
+
+    // How many slots of the table were used: all, where the count is past its end.
+    pub fn slots(self) -> usize
+        ensures { λ r. ⌜ r ≡ viewSlots self ⌝ }
+    {
+        let arena = self.arena;
+        if arena.used < 16 {
+            return arena.used;
+        }
+        16
     }
 
     // What a handle that names no live view refuses.

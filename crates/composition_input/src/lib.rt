@@ -1,0 +1,2 @@
+// The calls on focus, captures and compositions.
+pub mod answer;

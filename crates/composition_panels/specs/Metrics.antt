@@ -1,0 +1,46 @@
+-- Document 01, metrics: 14, 8/9, 20, 21, after 42. The 20 and the first 21 are the view's own metrics counter; that 21 comes before any change.
+use Prim.Native.Nat.{ℕ, _+_}
+use mathlib.Core.Bool.{Bool, true, false, not}
+use lib.Dec.{eqb}
+use Rattle.geometry.specs.Metrics.{isValidMetrics, atRevision}
+use Rattle.geometry.specs.declared.metrics.ViewMetrics.{ViewMetrics}
+use Rattle.geometry.specs.declared.metrics.ViewMetricsUpdate.{ViewMetricsUpdate}
+use Rattle.handles.specs.declared.handle.GenerationalHandle.{GenerationalHandle}
+use Rattle.composition_state.specs.declared.error.CompositionError.the-variants.{InvalidMetrics, RevisionConflict, RevisionExhausted}
+use Rattle.composition_state.specs.declared.error.Outcome.{Outcome}
+use Rattle.composition_state.specs.declared.registry.CompositionRegistry.{CompositionRegistry}
+use Rattle.composition_state.specs.declared.registry.Changed.{Changed}
+use Rattle.composition_state.specs.Errors.{thenRefusal, refusalIf, isAccepted}
+use Rattle.composition_state.specs.Damage.{damageRefusal}
+use Rattle.composition_state.specs.Registry.{withViews, conflictRefusal, settled}
+use Rattle.composition_state.specs.Views.{viewAt, viewRefusal, withView, withMetrics}
+use Rattle.composition_panels.specs.declared.answer.OptionalMetrics.{OptionalMetrics}
+use Rattle.composition_panels.specs.declared.answer.OptionalMetrics.the-variants.{None, Some}
+use Rattle.composition_panels.specs.declared.answer.MetricsUpdated.{MetricsUpdated}
+
+abbrev pub metricsIf : Bool → ViewMetrics → OptionalMetrics
+metricsIf true m = Some m
+metricsIf false m = None
+
+abbrev pub currentRevision : CompositionRegistry → GenerationalHandle → ℕ
+currentRevision r view = viewAt (r .views) view .metrics .revision
+
+abbrev pub metricsRefusal : CompositionRegistry → GenerationalHandle → ViewMetricsUpdate → ℕ → Outcome
+metricsRefusal r view update expected =
+    thenRefusal (damageRefusal r)
+    (thenRefusal (refusalIf (not (isValidMetrics update)) InvalidMetrics)
+    (thenRefusal (viewRefusal (r .views) view)
+    (thenRefusal (conflictRefusal (currentRevision r view) expected)
+    (refusalIf (eqb (currentRevision r view) 18446744073709551615) RevisionExhausted))))
+
+abbrev pub newMetrics : CompositionRegistry → GenerationalHandle → ViewMetricsUpdate → ViewMetrics
+newMetrics r view update = atRevision update (currentRevision r view + 1)
+
+abbrev pub metricsUpdated : ViewMetrics → Changed → MetricsUpdated
+metricsUpdated m c = record { outcome = c .outcome; metrics = metricsIf (isAccepted (c .outcome)) m; registry = c .registry }
+
+unfoldable pub updateViewMetrics : CompositionRegistry → GenerationalHandle → ViewMetricsUpdate → ℕ → MetricsUpdated
+updateViewMetrics r view update expected =
+    metricsUpdated (newMetrics r view update)
+    (settled (metricsRefusal r view update expected) r
+    (withViews (withView view (withMetrics (newMetrics r view update) (viewAt (r .views) view)) (r .views)) r))
