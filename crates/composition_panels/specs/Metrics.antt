@@ -1,6 +1,6 @@
 -- Document 01, metrics: 14, 8/9, 20, 21, after 42. The 20 and the first 21 are the view's own metrics counter; that 21 comes before any change.
 use Prim.Native.Nat.{ℕ, _+_}
-use mathlib.Core.Bool.{Bool, true, false, not}
+use mathlib.Core.Bool.{Bool, true, false, cond, not}
 use lib.Dec.{eqb}
 use Rattle.geometry.specs.Metrics.{isValidMetrics, atRevision}
 use Rattle.geometry.specs.declared.metrics.ViewMetrics.{ViewMetrics}
@@ -33,8 +33,12 @@ metricsRefusal r view update expected =
     (thenRefusal (conflictRefusal (currentRevision r view) expected)
     (refusalIf (eqb (currentRevision r view) 18446744073709551615) RevisionExhausted))))
 
+-- the metrics' revision rises by 1 too; past the last one, which is refused, it would start again
+abbrev pub nextMetrics : ViewMetrics → ViewMetricsUpdate → ViewMetrics
+nextMetrics m update = atRevision update (cond (eqb (m .revision) 18446744073709551615) 0 (m .revision + 1))
+
 abbrev pub newMetrics : CompositionRegistry → GenerationalHandle → ViewMetricsUpdate → ViewMetrics
-newMetrics r view update = atRevision update (currentRevision r view + 1)
+newMetrics r view update = nextMetrics (viewAt (r .views) view .metrics) update
 
 abbrev pub metricsUpdated : ViewMetrics → Changed → MetricsUpdated
 metricsUpdated m c = record { outcome = c .outcome; metrics = metricsIf (isAccepted (c .outcome)) m; registry = c .registry }

@@ -1,11 +1,10 @@
 -- Document 01, Panels: attach 13, 8/9, 4, 3, 21; geometry 20, 13, 11/12, 21; policy 20, 11/12, 21. Each after 42.
 use Prim.Native.Nat.{ℕ}
-use mathlib.Core.Bool.{Bool, not}
+use mathlib.Core.Bool.{not}
 use mathlib.Core.List.{List}
 use lib.ListN.{length}
 use lib.Dec.{eqb}
-use Rattle.lists.specs.Lists.{keep}
-use Rattle.lists.specs.Tables.{entriesOf, packed}
+use Rattle.lists.specs.Tables.{entriesOf}
 use Rattle.geometry.specs.Surface.{isValidGeometry}
 use Rattle.geometry.specs.declared.surface.SurfaceGeometry.{SurfaceGeometry}
 use Rattle.handles.specs.Slots.{allocated}
@@ -15,17 +14,16 @@ use Rattle.composition_state.specs.declared.error.CompositionError.the-variants
 use Rattle.composition_state.specs.declared.error.Outcome.{Outcome}
 use Rattle.composition_state.specs.declared.registry.CompositionRegistry.{CompositionRegistry}
 use Rattle.composition_state.specs.declared.registry.Changed.{Changed}
-use Rattle.composition_state.specs.declared.shortcut.SlotShortcut.{SlotShortcut}
-use Rattle.composition_state.specs.declared.shortcut.Shortcuts.{Shortcuts}
 use Rattle.composition_state.specs.declared.surface.SurfaceDescriptor.{SurfaceDescriptor}
 use Rattle.composition_state.specs.declared.surface.SurfaceInputPolicy.{SurfaceInputPolicy}
+use Rattle.composition_state.specs.declared.surface.SurfaceRecord.{SurfaceRecord}
 use Rattle.composition_state.specs.declared.surface.SurfaceTable.{SurfaceTable}
 use Rattle.composition_state.specs.declared.view.ViewTable.{ViewTable}
 use Rattle.composition_state.specs.Errors.{thenRefusal, refusalIf}
 use Rattle.composition_state.specs.Damage.{damageRefusal}
 use Rattle.composition_state.specs.Layers.{layers, layersWith}
 use Rattle.composition_state.specs.Registry.{withViews, withSurfaces, withShortcuts, conflictRefusal, settled}
-use Rattle.composition_state.specs.Shortcuts.{shortcuts}
+use Rattle.composition_state.specs.Shortcuts.{shortcutsWithout}
 use Rattle.composition_state.specs.Surfaces.{surfaceAt, surfaceRefusal, withSurface, surfacesWith, withGeometry, withInput}
 use Rattle.composition_state.specs.Views.{viewAt, viewRefusal, withView, withLayers}
 use Rattle.composition_panels.specs.declared.answer.Created.{Created}
@@ -47,30 +45,23 @@ abbrev pub newSurface : CompositionRegistry → Allocation
 newSurface r = allocated (r .surfaces .arena) (r .«first_generation»)
 
 -- the panels with the new one, described as given
-abbrev pub surfacesAttached : CompositionRegistry → SurfaceDescriptor → SurfaceTable
-surfacesAttached r d = withSurface (newSurface r .handle) (record { descriptor = d }) (surfacesWith (newSurface r .arena) (r .surfaces))
+abbrev pub surfaceAdded : Allocation → SurfaceDescriptor → SurfaceTable → SurfaceTable
+surfaceAdded made d t = withSurface (made .handle) (record { descriptor = d }) (surfacesWith (made .arena) t)
 
--- the view with the new panel in its place among the layers
-abbrev pub viewsAttached : CompositionRegistry → SurfaceDescriptor → ViewTable
-viewsAttached r d =
-    withView (d .view)
-    (withLayers (layersWith (surfacesAttached r d .records) (newSurface r .handle) (viewAt (r .views) (d .view) .surfaces)) (viewAt (r .views) (d .view)))
-    (r .views)
+-- a view with the new panel in its place among the layers
+abbrev pub layerAdded : List SurfaceRecord → GenerationalHandle → GenerationalHandle → ViewTable → ViewTable
+layerAdded records surface view t = withView view (withLayers (layersWith records surface (viewAt t view .surfaces)) (viewAt t view)) t
 
--- the registrations of all other slots: a new panel has none
-abbrev pub isOfOtherSlot : ℕ → SlotShortcut → Bool
-isOfOtherSlot slot s = not (eqb slot (s .slot))
-
-abbrev pub shortcutsWithout : ℕ → Shortcuts → Shortcuts
-shortcutsWithout slot t = packed shortcuts (keep (isOfOtherSlot slot) (entriesOf shortcuts t))
+-- the registry with the new panel; it has no registration: those of its slot are dropped
+unfoldable pub attached : Allocation → SurfaceDescriptor → CompositionRegistry → CompositionRegistry
+attached made d r =
+    let surfaces = surfaceAdded made d (r .surfaces) in
+    withShortcuts (shortcutsWithout (made .handle .index) (r .shortcuts))
+    (withViews (layerAdded (surfaces .records) (made .handle) (d .view) (r .views))
+    (withSurfaces surfaces r))
 
 unfoldable pub attachSurface : CompositionRegistry → SurfaceDescriptor → Created
-attachSurface r d =
-    created (newSurface r .handle)
-    (settled (attachRefusal r d) r
-    (withShortcuts (shortcutsWithout (newSurface r .handle .index) (r .shortcuts))
-    (withViews (viewsAttached r d)
-    (withSurfaces (surfacesAttached r d) r))))
+attachSurface r d = created (newSurface r .handle) (settled (attachRefusal r d) r (attached (newSurface r) d r))
 
 -- ---- geometry
 abbrev pub geometryRefusal : CompositionRegistry → GenerationalHandle → SurfaceGeometry → ℕ → Outcome

@@ -1,10 +1,16 @@
-// Windows and views: create and close.
+// Windows: create and close.
 ghost use mathlib.Core.Path.{_≡_};
-ghost use Rattle.composition_panels.specs.Windows.{createWindowRefusal, createWindow};
+ghost use Prim.Native.Nat.{_≤_, _<_};
+ghost use mathlib.Core.Bool.{not};
+ghost use Rattle.lists.specs.Below.{allBelow};
+ghost use Rattle.composition_panels.specs.Windows.{createWindowRefusal, createWindow, standsIn, isWindowInUse, closeWindowRefusal, closeWindow};
 use crate::answer::Created;
 use composition_state::error::CompositionError;
 use composition_state::error::Outcome;
+use composition_state::registry::Changed;
 use composition_state::registry::CompositionRegistry;
+use composition_state::view::ViewTable;
+use handles::handle::GenerationalHandle;
 
 fn create_window_refusal(registry: CompositionRegistry) -> Outcome
     ensures { λ r. ⌜ r ≡ createWindowRefusal registry ⌝ }
@@ -27,4 +33,61 @@ pub fn create_window(registry: CompositionRegistry) -> Created
         handle,
         registry.settle(refusal, registry.with_windows(arena)),
     )
+}
+
+// Whether the slot holds a live view that stands in the window.
+fn stands_in(views: ViewTable, window: GenerationalHandle, i: usize) -> bool
+    requires { ⌜ i < 16 ⌝ }
+    ensures { λ r. ⌜ r ≡ standsIn views window i ⌝ }
+{
+    let arena = views.arena;
+    let slots = arena.slots;
+    let slot = handles::arena::slot_at(slots, i);
+    let view = GenerationalHandle {
+        index: i as u32,
+        generation: slot.generation,
+    };
+    let record = views.record(view);
+    let own = record.window;
+    lists::both(slot.filled, handles::handle::same_handle(own, window))
+}
+
+fn is_window_in_use(views: ViewTable, window: GenerationalHandle) -> bool
+    ensures { λ r. ⌜ r ≡ isWindowInUse views window ⌝ }
+{
+    let n = views.slots();
+    let mut none = true;
+    let mut i: usize = 0;
+    while i < n {
+        let stands = stands_in(views, window, i);
+        none = lists::both(none, !stands);
+        i += 1;
+    }
+    !none
+}
+
+fn close_window_refusal(registry: CompositionRegistry, window: GenerationalHandle) -> Outcome
+    ensures { λ r. ⌜ r ≡ closeWindowRefusal registry window ⌝ }
+{
+    let windows = registry.windows;
+    let views = registry.views;
+    let freed = handles::arena::release(windows, window);
+    let outcome = freed.outcome;
+    let exhausted = crate::answer::refuse_exhausted(outcome);
+    let in_use = composition_state::error::refuse_if(
+        is_window_in_use(views, window),
+        CompositionError::WindowInUse,
+    );
+    let live = composition_state::registry::window_refusal(windows, window);
+    registry.damage().then(live.then(in_use.then(exhausted)))
+}
+
+pub fn close_window(registry: CompositionRegistry, window: GenerationalHandle) -> Changed
+    ensures { λ r. ⌜ r ≡ closeWindow registry window ⌝ }
+{
+    let windows = registry.windows;
+    let freed = handles::arena::release(windows, window);
+    let arena = freed.arena;
+    let refusal = close_window_refusal(registry, window);
+    registry.settle(refusal, registry.with_windows(arena))
 }

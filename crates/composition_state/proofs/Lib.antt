@@ -1,3 +1,5 @@
 pub mod LayerLaws
+pub mod ViewLaws
 pub mod TraceLaws
+pub mod ShortcutLaws
 pub mod DamageLaws

@@ -1,7 +1,11 @@
 -- The registrations of all panels, in the order given, each with the slot of its panel.
+use Prim.Native.Nat.{ℕ}
 use mathlib.Core.Path.{refl}
+use mathlib.Core.Bool.{Bool, not}
+use lib.Dec.{eqb}
 use lib.IntN.{pos}
-use Rattle.lists.specs.Tables.{Shape}
+use Rattle.lists.specs.Lists.{keep}
+use Rattle.lists.specs.Tables.{Shape, entriesOf, packed}
 use Rattle.composition_state.specs.declared.shortcut.ShortcutScope.the-variants.{View}
 use Rattle.composition_state.specs.declared.shortcut.SlotShortcut.{SlotShortcut}
 use Rattle.composition_state.specs.declared.shortcut.Shortcuts.{Shortcuts}
@@ -17,3 +21,10 @@ shortcuts = record {
   all-make = λ l n. refl;
   len-make = λ l n. refl;
 }
+
+-- the registrations of all slots but one, in their order
+abbrev pub isOfOtherSlot : ℕ → SlotShortcut → Bool
+isOfOtherSlot slot s = not (eqb slot (s .slot))
+
+abbrev pub shortcutsWithout : ℕ → Shortcuts → Shortcuts
+shortcutsWithout slot t = packed shortcuts (keep (isOfOtherSlot slot) (entriesOf shortcuts t))

@@ -1,8 +1,11 @@
 // The system shortcuts of all panels, in one table.
 ghost use mathlib.Core.Path.{_≡_};
-ghost use mathlib.Core.List.{[]};
-ghost use Rattle.lists.specs.Tables.{packed};
-ghost use Rattle.composition_state.specs.Shortcuts.{shortcuts};
+ghost use mathlib.Core.List.{[], _++_};
+ghost use Prim.Native.Nat.{_+_, _≤_, _<_};
+ghost use lib.ListN.{length};
+ghost use Rattle.lists.specs.Lists.{keep};
+ghost use Rattle.lists.specs.Tables.{entriesOf, packed, pushed};
+ghost use Rattle.composition_state.specs.Shortcuts.{shortcuts, isOfOtherSlot, shortcutsWithout};
 
 pub enum ShortcutScope {
     View,
@@ -45,4 +48,48 @@ impl Shortcuts {
             len: 0,
         }
     }
+
+    pub fn count(self) -> usize
+        ensures { λ r. ⌜ r ≡ length (entriesOf shortcuts self) ⌝ }
+    {
+        let n = self.len;
+        if n < 256 {
+            return n;
+        }
+        256
+    }
+
+    pub fn push(self, entry: SlotShortcut) -> Self
+        requires { ⌜ self .len < 256 ⌝ }
+        ensures { λ r. ⌜ r ≡ pushed shortcuts self entry ⌝ }
+    {
+        let at = self.len;
+        let mut next = self;
+        next.entries[at] = entry;
+        next.len = at + 1;
+        next
+    }
+
+    // The registrations of all slots but one.
+    pub fn without(self, slot: u32) -> Self
+        ensures { λ r. ⌜ r ≡ shortcutsWithout slot self ⌝ }
+    {
+        let mut next = Shortcuts::new();
+        let n = self.count();
+        let mut i = 0;
+        while i < n {
+            let entry = self.entries[i];
+            if is_of_other_slot(slot, entry) {
+                next = next.push(entry);
+            }
+            i += 1;
+        }
+        next
+    }
+}
+
+fn is_of_other_slot(slot: u32, entry: SlotShortcut) -> bool
+    ensures { λ r. ⌜ r ≡ isOfOtherSlot slot entry ⌝ }
+{
+    slot != entry.slot
 }

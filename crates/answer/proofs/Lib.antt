@@ -1,0 +1,5 @@
+pub mod DigestLaws
+pub mod DecimalLaws
+pub mod PutLaws
+pub mod SignLaws
+pub mod ClaimLaws

@@ -1,0 +1,4 @@
+pub mod Digests
+pub mod Decimal
+pub mod Put
+pub mod Claims

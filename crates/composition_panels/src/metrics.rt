@@ -1,0 +1,84 @@
+// The metrics of a view.
+ghost use mathlib.Core.Path.{_≡_};
+ghost use Prim.Native.Nat.{_+_};
+ghost use Rattle.composition_panels.specs.Metrics.{metricsRefusal, nextMetrics, metricsUpdated, updateViewMetrics};
+use crate::answer::MetricsUpdated;
+use crate::answer::OptionalMetrics;
+use composition_state::error::CompositionError;
+use composition_state::error::Outcome;
+use composition_state::registry::Changed;
+use composition_state::registry::CompositionRegistry;
+use geometry::metrics::ViewMetrics;
+use geometry::metrics::ViewMetricsUpdate;
+use handles::handle::GenerationalHandle;
+
+fn metrics_refusal(
+    registry: CompositionRegistry,
+    view: GenerationalHandle,
+    update: ViewMetricsUpdate,
+    expected: u64,
+) -> Outcome
+    ensures { λ r. ⌜ r ≡ metricsRefusal registry view update expected ⌝ }
+{
+    let views = registry.views;
+    let record = views.record(view);
+    let current = record.metrics;
+    let valid = geometry::metrics::validate_view_metrics(update);
+    let invalid = composition_state::error::refuse_if(!valid, CompositionError::InvalidMetrics);
+    let last = current.revision == 18446744073709551615;
+    let exhausted = composition_state::error::refuse_if(last, CompositionError::RevisionExhausted);
+    let conflict = composition_state::registry::expect_revision(current.revision, expected);
+    let live = views.refusal(view);
+    registry
+        .damage()
+        .then(invalid.then(live.then(conflict.then(exhausted))))
+}
+
+// The metrics after the current ones; the last revision has none, and is refused before.
+fn next_metrics(current: ViewMetrics, update: ViewMetricsUpdate) -> ViewMetrics
+    ensures { λ r. ⌜ r ≡ nextMetrics current update ⌝ }
+{
+    if current.revision == 18446744073709551615 {
+        return update.at_revision(0);
+    }
+    update.at_revision(current.revision + 1)
+}
+
+fn metrics_with(metrics: ViewMetrics, changed: Changed) -> MetricsUpdated
+    ensures { λ r. ⌜ r ≡ metricsUpdated metrics changed ⌝ }
+{
+    let outcome = changed.outcome;
+    let registry = changed.registry;
+    if outcome.is_accepted() {
+        return MetricsUpdated {
+            outcome,
+            metrics: OptionalMetrics::Some(metrics),
+            registry,
+        };
+    }
+    MetricsUpdated {
+        outcome,
+        metrics: OptionalMetrics::None,
+        registry,
+    }
+}
+
+pub fn update_view_metrics(
+    registry: CompositionRegistry,
+    view: GenerationalHandle,
+    update: ViewMetricsUpdate,
+    expected_metrics_revision: u64,
+) -> MetricsUpdated
+    ensures { λ r. ⌜ r ≡ updateViewMetrics registry view update «expected_metrics_revision» ⌝ }
+{
+    let views = registry.views;
+    let record = views.record(view);
+    let current = record.metrics;
+    let metrics = next_metrics(current, update);
+    let changed = views.with_record(view, record.with_metrics(metrics));
+    let refusal = metrics_refusal(registry, view, update, expected_metrics_revision);
+    metrics_with(
+        metrics,
+        registry.settle(refusal, registry.with_views(changed)),
+    )
+}

@@ -1,0 +1,2 @@
+pub mod LineInput
+pub mod Claims

@@ -1,0 +1,5 @@
+pub mod WordLaws
+pub mod NumberLaws
+pub mod VerbLaws
+pub mod LineLaws
+pub mod RangeLaws

@@ -1,0 +1,7 @@
+pub mod Texts
+pub mod Words
+pub mod Numbers
+pub mod Verbs
+pub mod Lines
+pub mod Ranges
+pub mod Examples
