@@ -1,0 +1,3 @@
+pub mod CaptureSettleLaws
+pub mod CaptureListLaws
+pub mod ClaimLaws

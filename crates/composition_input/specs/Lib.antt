@@ -1,2 +1,3 @@
 pub mod Focus
 pub mod Captures
+pub mod Claims

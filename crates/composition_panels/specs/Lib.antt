@@ -1,3 +1,4 @@
 pub mod Windows
 pub mod Metrics
 pub mod Panels
+pub mod Claims

@@ -3,3 +3,4 @@ pub mod ViewLaws
 pub mod TraceLaws
 pub mod ShortcutLaws
 pub mod DamageLaws
+pub mod SettleLaws

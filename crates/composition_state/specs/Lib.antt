@@ -7,3 +7,4 @@ pub mod Traces
 pub mod Registry
 pub mod Start
 pub mod Damage
+pub mod Settles

@@ -1,20 +1,15 @@
+-- `created_with` meets its contract: the handle stands exactly if the outcome is accepted.
 use mathlib.Core.Path.{sym, _∙_}
 use borrow.Author.Needs.{needs}
 use Rattle.composition_panels.proofs.answer.created_with.Statement.{statement}
 use Rattle.composition_panels.proofs.answer.created_with.Tie as tie
-use Rattle.composition_panels.proofs.answer.created_with.Reads as reads
-use Rattle.composition_panels.proofs.answer.created_with.Lts as lts
-use Rattle.composition_state.proofs.error.Outcome.is_accepted.Reads as is-accepted-reads
 
--- src/answer.rt:37:8
 is-accepted-requires : tie.Need-is-accepted-requires
 is-accepted-requires c κs = search needs
 
--- src/answer.rt:38:9
 returns : tie.Need-returns
 returns c = rw (sym (c .before .is-accepted .ensures) ∙ c .if1 .taken)
 
--- src/answer.rt:32:1
 returns-2 : tie.Need-returns-2
 returns-2 c = rw (sym (c .before .is-accepted .ensures) ∙ c .if1 .left)
 

@@ -1,60 +1,41 @@
+-- `attach_refusal` meets its contract: the checks are joined in their order.
 use borrow.Author.Needs.{needs}
 use Rattle.composition_panels.proofs.panels.attach_refusal.Statement.{statement}
 use Rattle.composition_panels.proofs.panels.attach_refusal.Tie as tie
-use Rattle.composition_panels.proofs.panels.attach_refusal.Reads as reads
-use Rattle.composition_panels.proofs.panels.attach_refusal.Lts as lts
-use Rattle.composition_panels.proofs.panels.layer_count.Reads as layer-count-reads
-use Rattle.composition_state.proofs.error.Outcome.then.Reads as then-reads
-use Rattle.composition_state.proofs.error.refuse_if.Reads as refuse-if-reads
-use Rattle.composition_state.proofs.registry.CompositionRegistry.damage.Reads as damage-reads
-use Rattle.composition_state.proofs.view.ViewTable.refusal.Reads as refusal-reads
-use Rattle.geometry.proofs.surface.validate_geometry.Reads as validate-geometry-reads
 
--- src/panels.rt:34:9
 refuse-if-requires : tie.Need-refuse-if-requires
 refuse-if-requires c κs = search needs
 
--- src/panels.rt:35:20
 layer-count-requires : tie.Need-layer-count-requires
 layer-count-requires c κs = search needs
 
--- src/panels.rt:36:9
 refuse-if-requires-2 : tie.Need-refuse-if-requires-2
 refuse-if-requires-2 c κs = search needs
 
--- src/panels.rt:37:9
 refusal-requires : tie.Need-refusal-requires
 refusal-requires c κs = search needs
 
--- src/panels.rt:38:9
 validate-geometry-requires : tie.Need-validate-geometry-requires
 validate-geometry-requires c κs = search needs
 
--- src/panels.rt:39:9
 refuse-if-requires-3 : tie.Need-refuse-if-requires-3
 refuse-if-requires-3 c κs = search needs
 
--- src/panels.rt:40:5
 damage-requires : tie.Need-damage-requires
 damage-requires c κs = search needs
 
--- src/panels.rt:40:51
 then-requires : tie.Need-then-requires
 then-requires c κs = search needs
 
--- src/panels.rt:40:41
 then-requires-2 : tie.Need-then-requires-2
 then-requires-2 c κs = search needs
 
--- src/panels.rt:40:28
 then-requires-3 : tie.Need-then-requires-3
 then-requires-3 c κs = search needs
 
--- src/panels.rt:40:5
 then-requires-4 : tie.Need-then-requires-4
 then-requires-4 c κs = search needs
 
--- src/panels.rt:24:1
 returns : tie.Need-returns
 returns c =
     rw (

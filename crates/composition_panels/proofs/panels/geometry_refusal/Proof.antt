@@ -1,48 +1,32 @@
+-- `geometry_refusal` meets its contract: the checks are joined in their order.
 use borrow.Author.Needs.{needs}
 use Rattle.composition_panels.proofs.panels.geometry_refusal.Statement.{statement}
 use Rattle.composition_panels.proofs.panels.geometry_refusal.Tie as tie
-use Rattle.composition_panels.proofs.panels.geometry_refusal.Reads as reads
-use Rattle.composition_panels.proofs.panels.geometry_refusal.Lts as lts
-use Rattle.composition_state.proofs.error.Outcome.then.Reads as then-reads
-use Rattle.composition_state.proofs.error.refuse_if.Reads as refuse-if-reads
-use Rattle.composition_state.proofs.registry.CompositionRegistry.damage.Reads as damage-reads
-use Rattle.composition_state.proofs.registry.expect_revision.Reads as expect-revision-reads
-use Rattle.composition_state.proofs.surface.SurfaceTable.refusal.Reads as refusal-reads
-use Rattle.geometry.proofs.surface.validate_geometry.Reads as validate-geometry-reads
 
--- src/panels.rt:69:9
 refusal-requires : tie.Need-refusal-requires
 refusal-requires c κs = search needs
 
--- src/panels.rt:70:9
 validate-geometry-requires : tie.Need-validate-geometry-requires
 validate-geometry-requires c κs = search needs
 
--- src/panels.rt:71:9
 refuse-if-requires : tie.Need-refuse-if-requires
 refuse-if-requires c κs = search needs
 
--- src/panels.rt:72:9
 expect-revision-requires : tie.Need-expect-revision-requires
 expect-revision-requires c κs = search needs
 
--- src/panels.rt:73:5
 damage-requires : tie.Need-damage-requires
 damage-requires c κs = search needs
 
--- src/panels.rt:73:42
 then-requires : tie.Need-then-requires
 then-requires c κs = search needs
 
--- src/panels.rt:73:28
 then-requires-2 : tie.Need-then-requires-2
 then-requires-2 c κs = search needs
 
--- src/panels.rt:73:5
 then-requires-3 : tie.Need-then-requires-3
 then-requires-3 c κs = search needs
 
--- src/panels.rt:65:1
 returns : tie.Need-returns
 returns c =
     rw (

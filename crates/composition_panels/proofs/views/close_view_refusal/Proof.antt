@@ -1,53 +1,35 @@
+-- `close_view_refusal` meets its contract: the checks are joined in their order.
 use borrow.Author.Needs.{needs}
 use Rattle.composition_panels.proofs.views.close_view_refusal.Statement.{statement}
 use Rattle.composition_panels.proofs.views.close_view_refusal.Tie as tie
-use Rattle.composition_panels.proofs.views.close_view_refusal.Reads as reads
-use Rattle.composition_panels.proofs.views.close_view_refusal.Lts as lts
-use Rattle.composition_panels.proofs.answer.refuse_exhausted.Reads as refuse-exhausted-reads
-use Rattle.composition_panels.proofs.views.has_layers.Reads as has-layers-reads
-use Rattle.composition_state.proofs.error.Outcome.then.Reads as then-reads
-use Rattle.composition_state.proofs.error.refuse_if.Reads as refuse-if-reads
-use Rattle.composition_state.proofs.registry.CompositionRegistry.damage.Reads as damage-reads
-use Rattle.composition_state.proofs.view.ViewTable.refusal.Reads as refusal-reads
-use Rattle.handles.proofs.arena.release.Reads as release-reads
 
--- src/views.rt:52:9
 release-requires : tie.Need-release-requires
 release-requires c κs = search needs
 
--- src/views.rt:54:9
 refuse-exhausted-requires : tie.Need-refuse-exhausted-requires
 refuse-exhausted-requires c κs = search needs
 
--- src/views.rt:55:54
 has-layers-requires : tie.Need-has-layers-requires
 has-layers-requires c κs = search needs
 
--- src/views.rt:55:9
 refuse-if-requires : tie.Need-refuse-if-requires
 refuse-if-requires c κs = search needs
 
--- src/views.rt:56:9
 refusal-requires : tie.Need-refusal-requires
 refusal-requires c κs = search needs
 
--- src/views.rt:57:5
 damage-requires : tie.Need-damage-requires
 damage-requires c κs = search needs
 
--- src/views.rt:57:38
 then-requires : tie.Need-then-requires
 then-requires c κs = search needs
 
--- src/views.rt:57:28
 then-requires-2 : tie.Need-then-requires-2
 then-requires-2 c κs = search needs
 
--- src/views.rt:57:5
 then-requires-3 : tie.Need-then-requires-3
 then-requires-3 c κs = search needs
 
--- src/views.rt:47:1
 returns : tie.Need-returns
 returns c =
     rw (

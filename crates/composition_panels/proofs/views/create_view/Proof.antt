@@ -1,51 +1,33 @@
-use Rattle.composition_panels.specs.Windows.{createView}
+-- `create_view` meets its contract: each callee's answer is put into the definition.
 use borrow.Author.Needs.{needs}
+use Rattle.composition_panels.specs.Windows.{createView}
 use Rattle.composition_panels.proofs.views.create_view.Statement.{statement}
 use Rattle.composition_panels.proofs.views.create_view.Tie as tie
-use Rattle.composition_panels.proofs.views.create_view.Reads as reads
-use Rattle.composition_panels.proofs.views.create_view.Lts as lts
-use Rattle.composition_panels.proofs.answer.created_with.Reads as created-with-reads
-use Rattle.composition_panels.proofs.views.create_view_refusal.Reads as create-view-refusal-reads
-use Rattle.composition_state.proofs.registry.CompositionRegistry.settle.Reads as settle-reads
-use Rattle.composition_state.proofs.registry.CompositionRegistry.with_views.Reads as with-views-reads
-use Rattle.composition_state.proofs.view.ViewRecord.new.Reads as new-reads
-use Rattle.composition_state.proofs.view.ViewTable.with_arena.Reads as with-arena-reads
-use Rattle.composition_state.proofs.view.ViewTable.with_record.Reads as with-record-reads
-use Rattle.handles.proofs.arena.allocate.Reads as allocate-reads
 
--- src/views.rt:31:9
 allocate-requires : tie.Need-allocate-requires
 allocate-requires c κs = search needs
 
--- src/views.rt:34:19
 with-arena-requires : tie.Need-with-arena-requires
 with-arena-requires c κs = search needs
 
--- src/views.rt:34:63
 new-requires : tie.Need-new-requires
 new-requires c κs = search needs
 
--- src/views.rt:34:9
 with-record-requires : tie.Need-with-record-requires
 with-record-requires c κs = search needs
 
--- src/views.rt:35:9
 create-view-refusal-requires : tie.Need-create-view-refusal-requires
 create-view-refusal-requires c κs = search needs
 
--- src/views.rt:36:66
 with-views-requires : tie.Need-with-views-requires
 with-views-requires c κs = search needs
 
--- src/views.rt:36:41
 settle-requires : tie.Need-settle-requires
 settle-requires c κs = search needs
 
--- src/views.rt:36:5
 created-with-requires : tie.Need-created-with-requires
 created-with-requires c κs = search needs
 
--- src/views.rt:26:1
 returns : tie.Need-returns
 unfolding createView
 returns c =

@@ -1,53 +1,35 @@
+-- `close_window_refusal` meets its contract: the checks are joined in their order.
 use borrow.Author.Needs.{needs}
 use Rattle.composition_panels.proofs.windows.close_window_refusal.Statement.{statement}
 use Rattle.composition_panels.proofs.windows.close_window_refusal.Tie as tie
-use Rattle.composition_panels.proofs.windows.close_window_refusal.Reads as reads
-use Rattle.composition_panels.proofs.windows.close_window_refusal.Lts as lts
-use Rattle.composition_panels.proofs.answer.refuse_exhausted.Reads as refuse-exhausted-reads
-use Rattle.composition_panels.proofs.windows.is_window_in_use.Reads as is-window-in-use-reads
-use Rattle.composition_state.proofs.error.Outcome.then.Reads as then-reads
-use Rattle.composition_state.proofs.error.refuse_if.Reads as refuse-if-reads
-use Rattle.composition_state.proofs.registry.CompositionRegistry.damage.Reads as damage-reads
-use Rattle.composition_state.proofs.registry.window_refusal.Reads as window-refusal-reads
-use Rattle.handles.proofs.arena.release.Reads as release-reads
 
--- src/windows.rt:71:9
 release-requires : tie.Need-release-requires
 release-requires c κs = search needs
 
--- src/windows.rt:73:9
 refuse-exhausted-requires : tie.Need-refuse-exhausted-requires
 refuse-exhausted-requires c κs = search needs
 
--- src/windows.rt:74:54
 is-window-in-use-requires : tie.Need-is-window-in-use-requires
 is-window-in-use-requires c κs = search needs
 
--- src/windows.rt:74:9
 refuse-if-requires : tie.Need-refuse-if-requires
 refuse-if-requires c κs = search needs
 
--- src/windows.rt:75:9
 window-refusal-requires : tie.Need-window-refusal-requires
 window-refusal-requires c κs = search needs
 
--- src/windows.rt:76:5
 damage-requires : tie.Need-damage-requires
 damage-requires c κs = search needs
 
--- src/windows.rt:76:38
 then-requires : tie.Need-then-requires
 then-requires c κs = search needs
 
--- src/windows.rt:76:28
 then-requires-2 : tie.Need-then-requires-2
 then-requires-2 c κs = search needs
 
--- src/windows.rt:76:5
 then-requires-3 : tie.Need-then-requires-3
 then-requires-3 c κs = search needs
 
--- src/windows.rt:66:1
 returns : tie.Need-returns
 returns c =
     rw (

@@ -1,19 +1,15 @@
-use Prim.Native.Nat.{_≤_, _<_, _-_}
+-- `is_window_in_use` meets its contract: after i turns the answer is that of the first i slots.
+use Prim.Native.Nat.{_≤_, _-_}
 use mathlib.Core.Path.{_≡_, sym, ap, _∙_}
-use mathlib.Core.Bool.{Bool, not}
+use mathlib.Core.Bool.{not}
 use native.Mathlib.Omega.{arith}
 use borrow.Author.Needs.{needs}
 use Rattle.lists.specs.Below.{allBelow}
 use Rattle.lists.proofs.BelowLaws.{all-none, all-more}
-use Rattle.composition_state.proofs.ViewLaws.{few-slots}
 use Rattle.composition_panels.specs.Windows.{standsIn, isWindowInUse}
+use Rattle.composition_state.proofs.ViewLaws.{few-slots}
 use Rattle.composition_panels.proofs.windows.is_window_in_use.Statement.{statement}
 use Rattle.composition_panels.proofs.windows.is_window_in_use.Tie as tie
-use Rattle.composition_panels.proofs.windows.is_window_in_use.Reads as reads
-use Rattle.composition_panels.proofs.windows.is_window_in_use.Lts as lts
-use Rattle.composition_panels.proofs.windows.stands_in.Reads as stands-in-reads
-use Rattle.composition_state.proofs.view.ViewTable.slots.Reads as slots-reads
-use Rattle.lists.proofs.both.Reads as both-reads
 
 abbrev Inv-loop : tie.InvT-loop
 Inv-loop views window n none₀ i₀ none i = (i ≤ n) × (n ≤ 16) × (none ≡ allBelow (λ k. not (standsIn views window k)) i)
@@ -21,36 +17,28 @@ Inv-loop views window n none₀ i₀ none i = (i ≤ n) × (n ≤ 16) × (none �
 abbrev μ-loop : tie.MeasureT-loop
 μ-loop views window n none₀ i₀ none i = n - i
 
--- src/windows.rt:55:9
 slots-requires : tie.Need-slots-requires Inv-loop μ-loop
 slots-requires c κs = search needs
 
--- src/windows.rt:58:5
 loop-holds : tie.Need-loop-holds Inv-loop μ-loop
 loop-holds c = (omega arith, omega (arith, few-slots (c .before .args .views)), sym (all-none _))
 
--- src/windows.rt:59:13
 stands-in-requires : tie.Need-stands-in-requires Inv-loop μ-loop
 stands-in-requires c κs = omega arith
 
--- src/windows.rt:60:9
 both-requires : tie.Need-both-requires Inv-loop μ-loop
 both-requires c κs = search needs
 
--- src/windows.rt:61:9
 add-i : tie.Need-add-i Inv-loop μ-loop
 add-i c = omega arith
 
--- src/windows.rt:58:5
 loop-less : tie.Need-loop-less Inv-loop μ-loop
 loop-less c = omega arith
 
--- src/windows.rt:58:5
 loop-again : tie.Need-loop-again Inv-loop μ-loop
 loop-again c = let l = c .before .before .before .loop in
     (omega arith, omega arith, c .both .ensures ∙ rw (c .before .stands-in .ensures, l .inv .2) (sym (all-more _ (l .i))))
 
--- src/windows.rt:52:1
 returns : tie.Need-returns Inv-loop μ-loop
 unfolding isWindowInUse
 returns c = let n-is = c .before .before .slots .ensures in

@@ -1,0 +1,59 @@
+-- A list of captures gathered from maps of captures: each map is copied entry by entry after what the list holds, and each has at most 32.
+use Prim.Native.Nat.{ℕ, _+_, _*_, _≤_, _<_}
+use mathlib.Core.Path.{_≡_, sym, ap, _∙_}
+use mathlib.Core.List.{List, [], _++_, append-assoc}
+use native.Mathlib.Numerals.{add-one}
+use native.Mathlib.Omega.{arith}
+use borrow.Author.Tests.{ltb-true}
+use lib.Dec.{ltb}
+use lib.ListN.{length, take, getD, length-append, length-take}
+use lib.Seq.{take-suc}
+use Rattle.lists.specs.Below.{iterBelow}
+use Rattle.lists.specs.Tables.{Shape, entriesOf, packed, pushed}
+use Rattle.lists.proofs.BelowLaws.{iter-more}
+use Rattle.lists.proofs.ListLaws.{by-test}
+use Rattle.lists.proofs.TableLaws.{entry, entries-packed, push-packed}
+use Rattle.maps.specs.Captures.{captures}
+use Rattle.maps.specs.declared.captures.Capture.{Capture}
+use Rattle.maps.specs.declared.captures.PointerCaptures.{PointerCaptures}
+use Rattle.composition_state.specs.declared.view.ViewTable.{ViewTable}
+use Rattle.composition_state.specs.Views.{viewSlots}
+use Rattle.composition_input.specs.declared.answer.CaptureList.{CaptureList}
+use Rattle.composition_input.specs.Captures.{captureList}
+
+-- ---- one turn of a loop that puts the entries of t after the list l of a table of another shape
+module _ {E T U : Type 0} (s : Shape E T) (u : Shape E U) (t : U) (i : ℕ) (d : E) (within : i < length (entriesOf u t)) (l : List E) (room : length l + length (entriesOf u t) ≤ s .size) where
+  pub copy-room : length (l ++ take i (entriesOf u t)) < s .size
+  copy-room = simp (length-append, length-take) (omega arith)
+
+  pub copy-turn : pushed s (packed s (l ++ take i (entriesOf u t))) (getD (u .all t) i d) ≡ packed s (l ++ take (i + 1) (entriesOf u t))
+  copy-turn = rw (add-one, take-suc (entriesOf u t) i d within, entry u t i d within, ← append-assoc) (push-packed s _ _ copy-room)
+
+-- ---- what the maps of the slots below n hold, slot by slot
+abbrev pub gathered : (ℕ → List Capture) → ℕ → List Capture
+gathered f n = iterBelow (λ i l. l ++ f i) n []
+
+module _ (f : ℕ → List Capture) (i : ℕ) where
+  pub gathered-more : gathered f (i + 1) ≡ gathered f i ++ f i
+  gathered-more = iter-more (λ i l. l ++ f i) i []
+
+  pub gathered-fits : length (gathered f i) ≤ i * 32 → length (f i) ≤ 32 → length (gathered f (i + 1)) ≤ (i + 1) * 32
+  gathered-fits h k = rw gathered-more (simp length-append (omega arith))
+
+  pub gathered-turn : (list next : CaptureList) (m : PointerCaptures) → list ≡ packed captureList (gathered f i) → m ≡ packed captures (f i)
+      → next ≡ packed captureList (entriesOf captureList list ++ entriesOf captures m) → next ≡ packed captureList (gathered f (i + 1))
+  gathered-turn list next m a b e =
+      e ∙ rw (a, b, entries-packed captureList (gathered f i), entries-packed captures (f i), gathered-more)
+
+-- a list that is packed is packed by its own entries
+module _ (list : CaptureList) (l : List Capture) (e : list ≡ packed captureList l) where
+  pub entries-are : entriesOf captureList list ≡ l
+  entries-are = ap (entriesOf captureList) e ∙ entries-packed captureList l
+
+  pub packed-self : list ≡ packed captureList (entriesOf captureList list)
+  packed-self = e ∙ ap (packed captureList) (sym entries-are)
+
+pub slots-few : (t : ViewTable) → viewSlots t ≤ 16
+slots-few t = by-test (ltb (t .arena .used) 16)
+    (λ h. let k : t .arena .used ≤ 16 = omega (arith, ltb-true (t .arena .used) 16 h) in rw h k)
+    (λ h. let k : 16 ≤ 16 = omega arith in rw h k)

@@ -1,0 +1,153 @@
+// Focus, compositions of text, and the suspension of a view's input.
+ghost use mathlib.Core.Path.{_≡_};
+ghost use Rattle.composition_input.specs.Focus.{focusTargetRefusal, setFocus, beginIme, endIme, suspendedView, suspended, suspendViewInput};
+use crate::answer::OptionalInputState;
+use crate::answer::Suspended;
+use crate::refusal::entry_refusal;
+use composition_state::error::CompositionError;
+use composition_state::error::Outcome;
+use composition_state::error::refuse_if;
+use composition_state::registry::Changed;
+use composition_state::registry::CompositionRegistry;
+use composition_state::surface::is_interactive;
+use composition_state::view::ViewInputState;
+use composition_state::view::ViewRecord;
+use handles::handle::GenerationalHandle;
+use handles::handle::OptionalHandle;
+use handles::handle::holds;
+use handles::handle::same_handle;
+use maps::captures::PointerCaptures;
+
+// What a panel that cannot take the focus of the view refuses; no panel is always taken.
+fn focus_target_refusal(
+    registry: CompositionRegistry,
+    view: GenerationalHandle,
+    target: OptionalHandle,
+) -> Outcome
+    ensures { λ r. ⌜ r ≡ focusTargetRefusal registry view target ⌝ }
+{
+    match target {
+        OptionalHandle::None => Outcome::Accepted,
+        OptionalHandle::Some(surface) => {
+            let surfaces = registry.surfaces;
+            let descriptor = surfaces.descriptor(surface);
+            let own_view = descriptor.view;
+            let input = descriptor.input;
+            let other_view = refuse_if(!same_handle(own_view, view), CompositionError::WrongView);
+            let inactive = refuse_if(!is_interactive(input), CompositionError::NotInteractive);
+            surfaces.refusal(surface).then(other_view.then(inactive))
+        }
+    }
+}
+
+pub fn set_focus(
+    registry: CompositionRegistry,
+    view: GenerationalHandle,
+    surface: OptionalHandle,
+    expected_revision: u64,
+) -> Changed
+    ensures { λ r. ⌜ r ≡ setFocus registry view surface «expected_revision» ⌝ }
+{
+    let views = registry.views;
+    let target = focus_target_refusal(registry, view, surface);
+    let refusal = entry_refusal(registry, expected_revision).then(target.then(views.refusal(view)));
+    let record = views.record(view).with_focus(surface);
+    registry.settle(
+        refusal,
+        registry.with_views(views.with_record(view, record)),
+    )
+}
+
+pub fn begin_ime(
+    registry: CompositionRegistry,
+    surface: GenerationalHandle,
+    expected_revision: u64,
+) -> Changed
+    ensures { λ r. ⌜ r ≡ beginIme registry surface «expected_revision» ⌝ }
+{
+    let views = registry.views;
+    let surfaces = registry.surfaces;
+    let descriptor = surfaces.descriptor(surface);
+    let view = descriptor.view;
+    let record = views.record(view);
+    let focus = record.focus;
+    let no_text = refuse_if(!descriptor.accepts_text, CompositionError::TextUnsupported);
+    let unfocused = refuse_if(!holds(focus, surface), CompositionError::NotInteractive);
+    let refusal = entry_refusal(registry, expected_revision).then(
+        surfaces
+            .refusal(surface)
+            .then(no_text.then(views.refusal(view).then(unfocused))),
+    );
+    let begun = record.with_ime(OptionalHandle::Some(surface));
+    registry.settle(refusal, registry.with_views(views.with_record(view, begun)))
+}
+
+pub fn end_ime(
+    registry: CompositionRegistry,
+    surface: GenerationalHandle,
+    expected_revision: u64,
+) -> Changed
+    ensures { λ r. ⌜ r ≡ endIme registry surface «expected_revision» ⌝ }
+{
+    let views = registry.views;
+    let surfaces = registry.surfaces;
+    let descriptor = surfaces.descriptor(surface);
+    let view = descriptor.view;
+    let record = views.record(view);
+    let ime = record.ime;
+    let not_begun = refuse_if(!holds(ime, surface), CompositionError::NotInteractive);
+    let refusal = entry_refusal(registry, expected_revision).then(
+        surfaces
+            .refusal(surface)
+            .then(views.refusal(view).then(not_begun)),
+    );
+    let ended = record.with_ime(OptionalHandle::None);
+    registry.settle(refusal, registry.with_views(views.with_record(view, ended)))
+}
+
+// A view with no focus, capture or composition.
+fn suspended_view(view: ViewRecord) -> ViewRecord
+    ensures { λ r. ⌜ r ≡ suspendedView view ⌝ }
+{
+    view.with_focus(OptionalHandle::None)
+        .with_pointer_capture(OptionalHandle::None)
+        .with_pointer_captures(PointerCaptures::new())
+        .with_ime(OptionalHandle::None)
+}
+
+fn suspended_with(state: ViewInputState, changed: Changed) -> Suspended
+    ensures { λ r. ⌜ r ≡ suspended state changed ⌝ }
+{
+    let outcome = changed.outcome;
+    let registry = changed.registry;
+    if outcome.is_accepted() {
+        return Suspended {
+            outcome,
+            released: OptionalInputState::Some(state),
+            registry,
+        };
+    }
+    Suspended {
+        outcome,
+        released: OptionalInputState::None,
+        registry,
+    }
+}
+
+pub fn suspend_view_input(
+    registry: CompositionRegistry,
+    view: GenerationalHandle,
+    expected_revision: u64,
+) -> Suspended
+    ensures { λ r. ⌜ r ≡ suspendViewInput registry view «expected_revision» ⌝ }
+{
+    let views = registry.views;
+    let record = views.record(view);
+    let refusal = entry_refusal(registry, expected_revision).then(views.refusal(view));
+    let state = record.input_state();
+    let next = suspended_view(record);
+    suspended_with(
+        state,
+        registry.settle(refusal, registry.with_views(views.with_record(view, next))),
+    )
+}
