@@ -38,9 +38,11 @@ released-with-requires c κs = search needs
 
 returns : tie.Need-returns
 unfolding releaseDevicePointerCaptures
-returns c = let d = c .before .before .before .before .before .before .before in
+returns c =
+    let c5 = c .before .before .before .before .before in
+    let d = c5 .before .before in
     c .released-with .ensures (taken d) (d .device-captures .ensures)
-    ∙ rw (eq-eqb (length (taken d)) 0 (sym (counted d) ∙ c .before .if1 .taken), c .before .before .before .then .ensures, c .before .before .before .before .damage .ensures, c .before .before .before .before .before .refuse-if .ensures, c .before .before .before .before .before .before .is-no-device .ensures)
+    ∙ rw (eq-eqb (length (taken d)) 0 (sym (counted d) ∙ c .before .if1 .taken), c .before .before .before .then .ensures, c .before .before .before .before .damage .ensures, c5 .refuse-if .ensures, c5 .before .is-no-device .ensures)
 
 device-cleared-requires : tie.Need-device-cleared-requires
 device-cleared-requires c κs = search needs
@@ -56,9 +58,12 @@ released-with-requires-2 c κs = search needs
 
 returns-2 : tie.Need-returns-2
 unfolding releaseDevicePointerCaptures
-returns-2 c = let d = c .before .before .before .before .before .before .before .before .before .before in
+returns-2 c =
+    let c5 = c .before .before .before .before .before in
+    let c10 = c5 .before .before .before .before .before in
+    let d = c10 in
     c .released-with2 .ensures (taken d) (d .device-captures .ensures)
-    ∙ rw (ne-eqb (length (taken d)) 0 (λ h. c .before .before .before .before .if1 .left (counted d ∙ h)), c .before .settle .ensures, c .before .before .with-views .ensures, c .before .before .before .device-cleared .ensures, c .before .before .before .before .before .before .then .ensures, c .before .before .before .before .before .before .before .damage .ensures, c .before .before .before .before .before .before .before .before .refuse-if .ensures, c .before .before .before .before .before .before .before .before .before .is-no-device .ensures)
+    ∙ rw (ne-eqb (length (taken d)) 0 (λ h. c .before .before .before .before .if1 .left (counted d ∙ h)), c .before .settle .ensures, c .before .before .with-views .ensures, c .before .before .before .device-cleared .ensures, c5 .before .then .ensures, c5 .before .before .damage .ensures, c5 .before .before .before .refuse-if .ensures, c5 .before .before .before .before .is-no-device .ensures)
 
 pub release-device-pointer-captures-spec : {M : Type 1} → statement M
 release-device-pointer-captures-spec =

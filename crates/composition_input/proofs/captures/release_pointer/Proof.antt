@@ -39,7 +39,10 @@ settle-requires c κs = search needs
 
 returns : tie.Need-returns
 unfolding releasePointer
-returns c = rw (c .settle .ensures, c .before .with-views .ensures, c .before .before .with-record .ensures, c .before .before .before .with-captures .ensures, c .before .before .before .before .remove .ensures, c .before .before .before .before .before .then .ensures, c .before .before .before .before .before .before .owner-refusal .ensures, c .before .before .before .before .before .before .before .refuse-if .ensures, c .before .before .before .before .before .before .before .before .holds .ensures, c .before .before .before .before .before .before .before .before .before .before .«record» .ensures, c .before .before .before .before .before .before .before .before .before .before .before .before .descriptor .ensures)
+returns c =
+    let c5 = c .before .before .before .before .before in
+    let c10 = c5 .before .before .before .before .before in
+    rw (c .settle .ensures, c .before .with-views .ensures, c .before .before .with-record .ensures, c .before .before .before .with-captures .ensures, c .before .before .before .before .remove .ensures, c5 .then .ensures, c5 .before .owner-refusal .ensures, c5 .before .before .refuse-if .ensures, c5 .before .before .before .holds .ensures, c10 .«record» .ensures, c10 .before .before .descriptor .ensures)
 
 pub release-pointer-spec : {M : Type 1} → statement M
 release-pointer-spec =

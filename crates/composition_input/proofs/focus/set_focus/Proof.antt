@@ -36,7 +36,9 @@ settle-requires c κs = search needs
 
 returns : tie.Need-returns
 unfolding setFocus
-returns c = rw (c .settle .ensures, c .before .with-views .ensures, c .before .before .with-record .ensures, c .before .before .before .with-focus .ensures, c .before .before .before .before .«record» .ensures, c .before .before .before .before .before .then2 .ensures, c .before .before .before .before .before .before .then .ensures, c .before .before .before .before .before .before .before .refusal .ensures, c .before .before .before .before .before .before .before .before .entry-refusal .ensures, c .before .before .before .before .before .before .before .before .before .focus-target-refusal .ensures)
+returns c =
+    let c5 = c .before .before .before .before .before in
+    rw (c .settle .ensures, c .before .with-views .ensures, c .before .before .with-record .ensures, c .before .before .before .with-focus .ensures, c .before .before .before .before .«record» .ensures, c5 .then2 .ensures, c5 .before .then .ensures, c5 .before .before .refusal .ensures, c5 .before .before .before .entry-refusal .ensures, c5 .before .before .before .before .focus-target-refusal .ensures)
 
 pub set-focus-spec : {M : Type 1} → statement M
 set-focus-spec =

@@ -36,7 +36,9 @@ suspended-with-requires c κs = search needs
 
 returns : tie.Need-returns
 unfolding suspendViewInput
-returns c = rw (c .suspended-with .ensures, c .before .settle .ensures, c .before .before .with-views .ensures, c .before .before .before .with-record .ensures, c .before .before .before .before .suspended-view .ensures, c .before .before .before .before .before .input-state .ensures, c .before .before .before .before .before .before .then .ensures, c .before .before .before .before .before .before .before .refusal .ensures, c .before .before .before .before .before .before .before .before .entry-refusal .ensures, c .before .before .before .before .before .before .before .before .before .«record» .ensures)
+returns c =
+    let c5 = c .before .before .before .before .before in
+    rw (c .suspended-with .ensures, c .before .settle .ensures, c .before .before .with-views .ensures, c .before .before .before .with-record .ensures, c .before .before .before .before .suspended-view .ensures, c5 .input-state .ensures, c5 .before .then .ensures, c5 .before .before .refusal .ensures, c5 .before .before .before .entry-refusal .ensures, c5 .before .before .before .before .«record» .ensures)
 
 pub suspend-view-input-spec : {M : Type 1} → statement M
 suspend-view-input-spec =

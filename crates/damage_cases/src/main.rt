@@ -1,0 +1,120 @@
+// Hands in registries that are damaged in each way of document 01's list, and odd ones that are not on it, and writes each answer.
+mod arenas;
+mod odd;
+mod views;
+
+use composition_state::error::Outcome;
+use composition_state::registry::CompositionLimits;
+use composition_state::registry::CompositionRegistry;
+use composition_state::surface::SurfaceDescriptor;
+use composition_state::surface::SurfaceInputPolicy;
+use composition_state::surface::SurfaceKind;
+use geometry::surface::SurfaceGeometry;
+use handles::handle::GenerationalHandle;
+use handles::handle::OptionalHandle;
+use libc::STDOUT_FILENO;
+
+// A name, a space, the answer's number and a line feed.
+pub fn report(name: &[u8], outcome: Outcome) {
+    let mut line = [0u8; 80];
+    let named = answer::put::put_bytes(&mut line, 0, name);
+    let spaced = answer::put::put_byte(&mut line, named, b' ');
+    let numbered = answer::put::put_u64(
+        &mut line,
+        spaced,
+        composition_state::error::number(outcome),
+    );
+    let ended = answer::put::put_byte(&mut line, numbered, b'\n');
+    write_front(&line, ended);
+}
+
+// Writes the first `len` bytes of a line.
+fn write_front(line: &[u8], len: usize) {
+    if len <= line.len() {
+        io::write_all(STDOUT_FILENO, &line[..len]);
+    }
+}
+
+// A call that every sound registry with a place left accepts.
+pub fn ask(name: &[u8], registry: CompositionRegistry) {
+    let answered = composition_panels::windows::create_window(registry);
+    let outcome = answered.outcome;
+    report(name, outcome);
+}
+
+pub fn first(index: u32) -> GenerationalHandle {
+    GenerationalHandle {
+        index,
+        generation: 1,
+    }
+}
+
+fn attached(registry: CompositionRegistry, view: u32, z_order: i32) -> CompositionRegistry {
+    let descriptor = SurfaceDescriptor {
+        view: first(view),
+        kind: SurfaceKind::Ui,
+        z_order,
+        input: SurfaceInputPolicy::Interactive,
+        accepts_text: true,
+        geometry: SurfaceGeometry::default(),
+    };
+    let answered = composition_panels::panels::attach_surface(registry, descriptor);
+    answered.registry
+}
+
+// Window 0 is live and 1 closed; views 0 and 2 are live and 1 closed; panels 0 and 1 stand in view 0, panel 2 in view 2; panel 1 has two captures.
+fn base() -> CompositionRegistry {
+    let limits = CompositionLimits {
+        max_windows: 4,
+        max_views: 4,
+        max_surfaces: 8,
+        max_surfaces_per_view: 4,
+        max_trace_entries: 8,
+    };
+    let started = CompositionRegistry::new(first(0), 1, limits);
+    let windows = two_windows(started.registry);
+    let views = three_views(windows);
+    let panels = attached(attached(attached(views, 0, 0), 0, 1), 2, 0);
+    captured(panels)
+}
+
+fn two_windows(registry: CompositionRegistry) -> CompositionRegistry {
+    let one = composition_panels::windows::create_window(registry);
+    let two = composition_panels::windows::create_window(one.registry);
+    let closed = composition_panels::windows::close_window(two.registry, first(1));
+    closed.registry
+}
+
+fn three_views(registry: CompositionRegistry) -> CompositionRegistry {
+    let one = composition_panels::views::create_view(registry, first(0));
+    let two = composition_panels::views::create_view(one.registry, first(0));
+    let three = composition_panels::views::create_view(two.registry, first(0));
+    let closed = composition_panels::views::close_view(three.registry, first(1));
+    closed.registry
+}
+
+fn captured(registry: CompositionRegistry) -> CompositionRegistry {
+    let revision = registry.revision;
+    let primary = composition_input::captures::capture_pointer(registry, first(1), revision);
+    let next = primary.registry;
+    let pointer = maps::keys::CompositionPointerId {
+        device: 7,
+        device_generation: 1,
+        contact: 9,
+    };
+    let second = composition_input::captures::capture_pointer_for(
+        next,
+        pointer,
+        first(1),
+        next.revision,
+    );
+    second.registry
+}
+
+fn main() {
+    let registry = base();
+    ask(b"sound", registry);
+    arenas::ask_all(registry);
+    views::ask_all(registry);
+    odd::ask_all(registry);
+}
