@@ -1,0 +1,16 @@
+-- `view_window` meets its contract: what is refused, beside the window of the record.
+use borrow.Author.Needs.{needs}
+use Rattle.composition_reads.proofs.view_window.Statement.{statement}
+use Rattle.composition_reads.proofs.view_window.Tie as tie
+
+view-read-refusal-requires : tie.Need-view-read-refusal-requires
+view-read-refusal-requires c κs = search needs
+
+record-requires : tie.Need-record-requires
+record-requires c κs = search needs
+
+returns : tie.Need-returns
+returns c = rw (c .before .«record» .ensures, c .before .before .before .view-read-refusal .ensures)
+
+pub view-window-spec : {M : Type 1} → statement M
+view-window-spec = tie.close (tie.spec view-read-refusal-requires record-requires returns)

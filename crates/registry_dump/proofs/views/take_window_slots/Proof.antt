@@ -1,0 +1,52 @@
+-- `take_window_slots` is safe and ends: each turn leaves one entry less, and the buffer keeps its length.
+use Prim.Native.Nat.{_-_}
+use mathlib.Core.Path.{_≡_, refl}
+use lib.ListN.{length}
+use borrow.Author.Needs.{needs}
+use Rattle.registry_dump.proofs.views.take_window_slots.Statement.{statement}
+use Rattle.registry_dump.proofs.views.take_window_slots.Tie as tie
+
+abbrev Inv-loop : tie.InvT-loop
+Inv-loop out₀ slots n next₀ i₀ out next i = length out ≡ length out₀
+
+abbrev μ-loop : tie.MeasureT-loop
+μ-loop out₀ slots n next₀ i₀ out next i = n - i
+
+loop-holds : tie.Need-loop-holds Inv-loop μ-loop
+loop-holds c = refl
+
+slot-at-requires : tie.Need-slot-at-requires Inv-loop μ-loop
+slot-at-requires c κs = search needs
+
+take-slot-requires : tie.Need-take-slot-requires Inv-loop μ-loop
+take-slot-requires c κs = search needs
+
+add-i : tie.Need-add-i Inv-loop μ-loop
+add-i c = search needs
+
+loop-less : tie.Need-loop-less Inv-loop μ-loop
+loop-less c = search needs
+
+loop-again : tie.Need-loop-again Inv-loop μ-loop
+loop-again c = search needs
+
+same-length : tie.Need-same-length Inv-loop μ-loop
+same-length c = search needs
+
+returns : tie.Need-returns Inv-loop μ-loop
+returns c = search needs
+
+pub take-window-slots-spec : {M : Type 1} → statement M
+take-window-slots-spec =
+    tie.close
+    (tie.spec
+    Inv-loop
+    μ-loop
+    loop-holds
+    slot-at-requires
+    take-slot-requires
+    add-i
+    loop-less
+    loop-again
+    same-length
+    returns)

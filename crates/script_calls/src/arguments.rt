@@ -1,0 +1,204 @@
+// The arguments of each call: a call where the line has as many fields as the verb asks for and each is in its range.
+use crate::calls::Call;
+use crate::calls::DeviceArguments;
+use crate::calls::FocusArguments;
+use crate::calls::GeometryArguments;
+use crate::calls::HandleArguments;
+use crate::calls::InputCall;
+use crate::calls::MetricsArguments;
+use crate::calls::PanelCall;
+use crate::calls::PointerArguments;
+use crate::calls::PolicyArguments;
+use crate::calls::Start;
+use crate::geometry_fields::descriptor_field;
+use crate::geometry_fields::geometry_field;
+use crate::geometry_fields::metrics_field;
+use crate::geometry_fields::policy_field;
+use crate::groups::handle_field;
+use crate::groups::limits_field;
+use crate::groups::optional_field;
+use crate::groups::pointer_field;
+use crate::groups::u32_field;
+use crate::groups::u64_field;
+use lists::both;
+use script::fields::as_flag;
+use script::fields::field;
+use script::line::Fields;
+
+// The call, if the line has the right number of fields and they fit.
+pub fn call_if(call: Call, count: usize, expected: usize, fits: bool) -> Call {
+    if count == expected {
+        if fits {
+            return call;
+        }
+    }
+    Call::NoCall
+}
+
+pub fn digest(fields: Fields) -> Call {
+    let on = as_flag(field(fields, 0));
+    call_if(Call::Digest(on.value), fields.count, 1, on.fits)
+}
+
+fn start(fields: Fields, first_revision: u64, first_generation: u32) -> Start {
+    let owner = handle_field(fields, 0);
+    let limited = limits_field(fields, 3);
+    let session = owner.handle;
+    let limits = limited.limits;
+    let epoch = u64_field(fields, 2);
+    Start {
+        session,
+        session_epoch: epoch.value,
+        limits,
+        first_revision,
+        first_generation,
+    }
+}
+
+fn start_fits(fields: Fields) -> bool {
+    let owner = handle_field(fields, 0);
+    let epoch = u64_field(fields, 2);
+    let limited = limits_field(fields, 3);
+    both(owner.fits, both(epoch.fits, limited.fits))
+}
+
+pub fn new_call(fields: Fields) -> Call {
+    let given = start(fields, 0, 1);
+    call_if(Call::New(given), fields.count, 8, start_fits(fields))
+}
+
+pub fn new_at_call(fields: Fields) -> Call {
+    let revision = u64_field(fields, 8);
+    let generation = u32_field(fields, 9);
+    let given = start(fields, revision.value, generation.value);
+    let fits = both(start_fits(fields), both(revision.fits, generation.fits));
+    call_if(Call::New(given), fields.count, 10, fits)
+}
+
+pub fn device(fields: Fields) -> Call {
+    let value = u64_field(fields, 0);
+    let generation = u32_field(fields, 1);
+    let given = DeviceArguments {
+        device: value.value,
+        device_generation: generation.value,
+    };
+    call_if(
+        Call::ReleaseDevice(given),
+        fields.count,
+        2,
+        both(value.fits, generation.fits),
+    )
+}
+
+pub fn metrics(fields: Fields) -> Call {
+    let named = handle_field(fields, 0);
+    let measured = metrics_field(fields, 2);
+    let revision = u64_field(fields, 14);
+    let view = named.handle;
+    let update = measured.update;
+    let given = MetricsArguments {
+        view,
+        update,
+        revision: revision.value,
+    };
+    let fits = both(named.fits, both(measured.fits, revision.fits));
+    let call = Call::Panel(PanelCall::UpdateViewMetrics(given));
+    call_if(call, fields.count, 15, fits)
+}
+
+pub fn attach(fields: Fields) -> Call {
+    let described = descriptor_field(fields, 0);
+    let descriptor = described.descriptor;
+    let call = Call::Panel(PanelCall::AttachSurface(descriptor));
+    call_if(call, fields.count, 24, described.fits)
+}
+
+pub fn shape(fields: Fields) -> Call {
+    let named = handle_field(fields, 0);
+    let shaped = geometry_field(fields, 2);
+    let revision = u64_field(fields, 20);
+    let surface = named.handle;
+    let geometry = shaped.geometry;
+    let given = GeometryArguments {
+        surface,
+        geometry,
+        revision: revision.value,
+    };
+    let fits = both(named.fits, both(shaped.fits, revision.fits));
+    let call = Call::Panel(PanelCall::UpdateSurfaceGeometry(given));
+    call_if(call, fields.count, 21, fits)
+}
+
+pub fn policy(fields: Fields) -> Call {
+    let named = handle_field(fields, 0);
+    let chosen = policy_field(fields, 2);
+    let revision = u64_field(fields, 3);
+    let surface = named.handle;
+    let input = chosen.input;
+    let given = PolicyArguments {
+        surface,
+        input,
+        revision: revision.value,
+    };
+    let fits = both(named.fits, both(chosen.fits, revision.fits));
+    let call = Call::Panel(PanelCall::UpdateSurfaceInputPolicy(given));
+    call_if(call, fields.count, 4, fits)
+}
+
+pub fn focus(fields: Fields) -> Call {
+    let named = handle_field(fields, 0);
+    let target = optional_field(fields, 2);
+    let revision = u64_field(fields, 5);
+    let view = named.handle;
+    let surface = target.value;
+    let given = FocusArguments {
+        view,
+        surface,
+        revision: revision.value,
+    };
+    let fits = both(named.fits, both(target.fits, revision.fits));
+    call_if(Call::Input(InputCall::SetFocus(given)), fields.count, 6, fits)
+}
+
+pub struct HandleRevision {
+    pub given: HandleArguments,
+    pub fits: bool,
+}
+
+// A handle and the expected revision.
+pub fn handle_revision(fields: Fields) -> HandleRevision {
+    let named = handle_field(fields, 0);
+    let revision = u64_field(fields, 2);
+    let handle = named.handle;
+    let given = HandleArguments {
+        handle,
+        revision: revision.value,
+    };
+    HandleRevision {
+        given,
+        fits: both(named.fits, revision.fits),
+    }
+}
+
+pub struct PointerRevision {
+    pub given: PointerArguments,
+    pub fits: bool,
+}
+
+// A pointer, a panel and the expected revision.
+pub fn pointer_revision(fields: Fields) -> PointerRevision {
+    let pointed = pointer_field(fields, 0);
+    let named = handle_field(fields, 3);
+    let revision = u64_field(fields, 5);
+    let pointer = pointed.pointer;
+    let surface = named.handle;
+    let given = PointerArguments {
+        pointer,
+        surface,
+        revision: revision.value,
+    };
+    PointerRevision {
+        given,
+        fits: both(pointed.fits, both(named.fits, revision.fits)),
+    }
+}

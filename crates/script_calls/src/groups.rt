@@ -1,0 +1,126 @@
+// The groups of fields that stand in a line from an index on, and whether each field is in its range.
+ghost use Prim.Native.Nat.{_≤_};
+use composition_state::registry::CompositionLimits;
+use handles::handle::GenerationalHandle;
+use handles::handle::OptionalHandle;
+use lists::both;
+use maps::keys::CompositionPointerId;
+use script::fields::FieldU32;
+use script::fields::FieldU64;
+use script::fields::as_flag;
+use script::fields::as_u32;
+use script::fields::as_u64;
+use script::fields::field;
+use script::line::Fields;
+
+pub struct HandleField {
+    pub handle: GenerationalHandle,
+    pub fits: bool,
+}
+
+pub struct OptionalField {
+    pub value: OptionalHandle,
+    pub fits: bool,
+}
+
+pub struct PointerField {
+    pub pointer: CompositionPointerId,
+    pub fits: bool,
+}
+
+pub struct LimitsField {
+    pub limits: CompositionLimits,
+    pub fits: bool,
+}
+
+pub fn u32_field(fields: Fields, i: usize) -> FieldU32 {
+    as_u32(field(fields, i))
+}
+
+pub fn u64_field(fields: Fields, i: usize) -> FieldU64 {
+    as_u64(field(fields, i))
+}
+
+// H: index, generation.
+pub fn handle_field(fields: Fields, i: usize) -> HandleField
+    requires { ⌜ i ≤ 4096 ⌝ }
+{
+    let index = u32_field(fields, i);
+    let generation = u32_field(fields, i + 1);
+    let handle = GenerationalHandle {
+        index: index.value,
+        generation: generation.value,
+    };
+    HandleField {
+        handle,
+        fits: both(index.fits, generation.fits),
+    }
+}
+
+fn is_zero(h: GenerationalHandle) -> bool {
+    if h.index == 0 {
+        return h.generation == 0;
+    }
+    false
+}
+
+// O: a flag, then a handle, which is zeros where there is none.
+pub fn optional_field(fields: Fields, i: usize) -> OptionalField
+    requires { ⌜ i ≤ 256 ⌝ }
+{
+    let present = as_flag(field(fields, i));
+    let named = handle_field(fields, i + 1);
+    let handle = named.handle;
+    let fits = both(present.fits, named.fits);
+    if present.value {
+        return OptionalField {
+            value: OptionalHandle::Some(handle),
+            fits,
+        };
+    }
+    OptionalField {
+        value: OptionalHandle::None,
+        fits: both(fits, is_zero(handle)),
+    }
+}
+
+// K: device, device generation, contact.
+pub fn pointer_field(fields: Fields, i: usize) -> PointerField
+    requires { ⌜ i ≤ 4096 ⌝ }
+{
+    let device = u64_field(fields, i);
+    let generation = u32_field(fields, i + 1);
+    let contact = u32_field(fields, i + 2);
+    let pointer = CompositionPointerId {
+        device: device.value,
+        device_generation: generation.value,
+        contact: contact.value,
+    };
+    PointerField {
+        pointer,
+        fits: both(device.fits, both(generation.fits, contact.fits)),
+    }
+}
+
+// The five limits of a start.
+pub fn limits_field(fields: Fields, i: usize) -> LimitsField
+    requires { ⌜ i ≤ 4096 ⌝ }
+{
+    let windows = u64_field(fields, i);
+    let views = u64_field(fields, i + 1);
+    let surfaces = u64_field(fields, i + 2);
+    let per_view = u64_field(fields, i + 3);
+    let traces = u64_field(fields, i + 4);
+    let limits = CompositionLimits {
+        max_windows: windows.value,
+        max_views: views.value,
+        max_surfaces: surfaces.value,
+        max_surfaces_per_view: per_view.value,
+        max_trace_entries: traces.value,
+    };
+    let rest = both(surfaces.fits, both(per_view.fits, traces.fits));
+    LimitsField {
+        limits,
+        fits: both(windows.fits, both(views.fits, rest)),
+    }
+}
