@@ -99,28 +99,16 @@ fn answer_device(
     registry: CompositionRegistry,
     given: DeviceArguments,
 ) -> Answered {
-    let released = release_device_pointer_captures(
-        registry,
-        given.device,
-        given.device_generation,
-    );
+    let released = release_device_pointer_captures(registry, given.device, given.device_generation);
     let outcome = released.outcome;
     let list = released.released;
     let next = released.registry;
     let rest = put_head(out, calls, number(outcome), next.revision);
     let at = put_released(out, rest, list);
-    Answered {
-        at,
-        registry: next,
-    }
+    Answered { at, registry: next }
 }
 
-fn answer_call(
-    out: &mut [u8],
-    calls: u64,
-    registry: CompositionRegistry,
-    call: Call,
-) -> Answered {
+fn answer_call(out: &mut [u8], calls: u64, registry: CompositionRegistry, call: Call) -> Answered {
     match call {
         Call::NoCall => answer_no_call(out, calls, registry),
         Call::Digest(_) => answer_report(out, calls, plain(Outcome::Accepted, registry)),

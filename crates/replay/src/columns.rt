@@ -198,12 +198,7 @@ fn put_both_digests(out: &mut [u8], at: usize, registry: CompositionRegistry) ->
     put_u64(out, b, 3239512384180555043)
 }
 
-fn put_digests(
-    out: &mut [u8],
-    at: usize,
-    registry: CompositionRegistry,
-    are_shown: bool,
-) -> usize {
+fn put_digests(out: &mut [u8], at: usize, registry: CompositionRegistry, are_shown: bool) -> usize {
     if are_shown {
         return put_both_digests(out, at, registry);
     }

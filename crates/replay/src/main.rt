@@ -3,6 +3,7 @@ mod answers;
 mod columns;
 mod report;
 mod run;
+
 use answers::Session;
 use answers::answer_line;
 use libc::STDIN_FILENO;

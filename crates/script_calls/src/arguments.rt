@@ -157,7 +157,12 @@ pub fn focus(fields: Fields) -> Call {
         revision: revision.value,
     };
     let fits = both(named.fits, both(target.fits, revision.fits));
-    call_if(Call::Input(InputCall::SetFocus(given)), fields.count, 6, fits)
+    call_if(
+        Call::Input(InputCall::SetFocus(given)),
+        fields.count,
+        6,
+        fits,
+    )
 }
 
 pub struct HandleRevision {

@@ -270,7 +270,10 @@ pub fn metrics_field(fields: Fields, i: usize) -> MetricsField
         visibility,
     };
     let sides = both(x.fits, both(y.fits, both(width.fits, height.fits)));
-    let pixels = both(framebuffer_width.fits, both(framebuffer_height.fits, scale.fits));
+    let pixels = both(
+        framebuffer_width.fits,
+        both(framebuffer_height.fits, scale.fits),
+    );
     MetricsField {
         update,
         fits: both(sides, both(pixels, both(inset.fits, seen.fits))),
