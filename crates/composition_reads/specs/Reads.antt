@@ -1,15 +1,21 @@
 -- Document 01, reads: of a view 42, 8/9; of a panel 42, 11/12. The value read stands beside the outcome.
+use mathlib.Core.Path.{refl}
+use mathlib.Core.List.{map}
+use Rattle.lists.specs.Tables.{Shape, entriesOf, packed}
 use Rattle.handles.specs.declared.handle.GenerationalHandle.{GenerationalHandle}
 use Rattle.composition_state.specs.declared.error.Outcome.{Outcome}
 use Rattle.composition_state.specs.declared.registry.CompositionRegistry.{CompositionRegistry}
 use Rattle.composition_state.specs.Errors.{thenRefusal}
 use Rattle.composition_state.specs.Damage.{damageRefusal}
-use Rattle.composition_state.specs.Surfaces.{surfaceRefusal, descriptorOf}
+use Rattle.composition_state.specs.Surfaces.{noSurface, surfaceRefusal, descriptorOf}
+use Rattle.composition_state.specs.Layers.{layers}
+use Rattle.composition_state.specs.declared.surface.SurfaceDescriptor.{SurfaceDescriptor}
 use Rattle.composition_state.specs.Views.{viewAt, viewRefusal, inputState}
 use Rattle.composition_reads.specs.declared.WindowRead.{WindowRead}
 use Rattle.composition_reads.specs.declared.MetricsRead.{MetricsRead}
 use Rattle.composition_reads.specs.declared.InputStateRead.{InputStateRead}
 use Rattle.composition_reads.specs.declared.CapturesRead.{CapturesRead}
+use Rattle.composition_reads.specs.declared.Descriptors.{Descriptors}
 use Rattle.composition_reads.specs.declared.LayersRead.{LayersRead}
 use Rattle.composition_reads.specs.declared.DescriptorRead.{DescriptorRead}
 
@@ -37,9 +43,15 @@ viewInputState r v = record { outcome = viewReadRefusal r v; state = inputState 
 abbrev pub viewPointerCaptures : CompositionRegistry → GenerationalHandle → CapturesRead
 viewPointerCaptures r v = record { outcome = viewReadRefusal r v; captures = viewAt (r .views) v .«pointer_captures» }
 
--- the panels of a view, the lowest first
+-- a list of descriptors as a table of 16
+abbrev pub descriptors : Shape SurfaceDescriptor Descriptors
+descriptors = record { size = 16; blank = noSurface .descriptor; make = λ l n. record { items = l; len = n }; all = λ t. t .items; len = λ t. t .len; all-make = λ l n. refl; len-make = λ l n. refl }
+
+-- the panels of a view, the lowest first, and what describes each
 abbrev pub viewLayers : CompositionRegistry → GenerationalHandle → LayersRead
-viewLayers r v = record { outcome = viewReadRefusal r v; layers = viewAt (r .views) v .surfaces }
+viewLayers r v =
+    let own = viewAt (r .views) v .surfaces in
+    record { outcome = viewReadRefusal r v; layers = own; descriptors = packed descriptors (map (descriptorOf (r .surfaces)) (entriesOf layers own)) }
 
 -- what describes a panel
 abbrev pub surfaceDescriptor : CompositionRegistry → GenerationalHandle → DescriptorRead

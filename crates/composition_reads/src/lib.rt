@@ -1,10 +1,16 @@
 // What a caller reads of a registry. A damaged registry is refused first, and then a handle that is not live.
 ghost use mathlib.Core.Path.{_≡_};
-ghost use Rattle.composition_reads.specs.Reads.{viewReadRefusal, surfaceReadRefusal, viewWindow, viewMetrics, viewInputState, viewPointerCaptures, viewLayers, surfaceDescriptor};
+ghost use mathlib.Core.List.{[], map};
+ghost use Prim.Native.Nat.{_<_};
+ghost use Rattle.lists.specs.Tables.{entriesOf, packed, pushed};
+ghost use Rattle.composition_state.specs.Layers.{layers as stateLayers};
+ghost use Rattle.composition_state.specs.Surfaces.{descriptorOf};
+ghost use Rattle.composition_reads.specs.Reads.{viewReadRefusal, surfaceReadRefusal, viewWindow, viewMetrics, viewInputState, viewPointerCaptures, descriptors, viewLayers, surfaceDescriptor};
 use composition_state::error::Outcome;
 use composition_state::layers::Layers;
 use composition_state::registry::CompositionRegistry;
 use composition_state::surface::SurfaceDescriptor;
+use composition_state::surface::SurfaceTable;
 use composition_state::view::ViewInputState;
 use geometry::metrics::ViewMetrics;
 use handles::handle::GenerationalHandle;
@@ -31,10 +37,17 @@ pub struct CapturesRead {
     pub captures: PointerCaptures,
 }
 
-// The layers from the lowest on; the descriptor of each stands in the registry.
+// The descriptors of a view's panels, from the lowest layer to the highest.
+pub struct Descriptors {
+    pub items: [SurfaceDescriptor; 16],
+    pub len: usize,
+}
+
+// The layers from the lowest on, and the descriptor of each at the same place.
 pub struct LayersRead {
     pub outcome: Outcome,
     pub layers: Layers,
+    pub descriptors: Descriptors,
 }
 
 pub struct DescriptorRead {
@@ -98,6 +111,45 @@ pub fn view_pointer_captures(
     CapturesRead { outcome, captures }
 }
 
+impl Descriptors {
+    fn new() -> Self
+        ensures { λ r. ⌜ r ≡ packed descriptors [] ⌝ }
+    {
+        let blank = composition_state::surface::blank();
+        let none = blank.descriptor;
+        Self {
+            items: [none; 16],
+            len: 0,
+        }
+    }
+
+    fn push(self, descriptor: SurfaceDescriptor) -> Self
+        requires { ⌜ self .len < 16 ⌝ }
+        ensures { λ r. ⌜ r ≡ pushed descriptors self descriptor ⌝ }
+    {
+        let at = self.len;
+        let mut next = self;
+        next.items[at] = descriptor;
+        next.len = at + 1;
+        next
+    }
+}
+
+// The descriptor of each layer.
+fn describe(surfaces: SurfaceTable, layers: Layers) -> Descriptors
+    ensures { λ r. ⌜ r ≡ packed descriptors (map (descriptorOf surfaces) (entriesOf stateLayers layers)) ⌝ }
+{
+    let mut next = Descriptors::new();
+    let n = layers.count();
+    let mut i = 0;
+    while i < n {
+        let surface = layers.items[i];
+        next = next.push(surfaces.descriptor(surface));
+        i += 1;
+    }
+    next
+}
+
 pub fn view_layers(registry: CompositionRegistry, view: GenerationalHandle) -> LayersRead
     ensures { λ r. ⌜ r ≡ viewLayers registry view ⌝ }
 {
@@ -105,7 +157,13 @@ pub fn view_layers(registry: CompositionRegistry, view: GenerationalHandle) -> L
     let views = registry.views;
     let record = views.record(view);
     let layers = record.surfaces;
-    LayersRead { outcome, layers }
+    let surfaces = registry.surfaces;
+    let descriptors = describe(surfaces, layers);
+    LayersRead {
+        outcome,
+        layers,
+        descriptors,
+    }
 }
 
 pub fn surface_descriptor(
@@ -121,4 +179,46 @@ pub fn surface_descriptor(
         outcome,
         descriptor,
     }
+}
+
+// The plain read-outs, which no registry refuses.
+pub fn session(registry: CompositionRegistry) -> GenerationalHandle
+    ensures { λ r. ⌜ r ≡ registry .session ⌝ }
+{
+    registry.session
+}
+
+pub fn session_epoch(registry: CompositionRegistry) -> u64
+    ensures { λ r. ⌜ r ≡ registry .«session_epoch» ⌝ }
+{
+    registry.session_epoch
+}
+
+pub fn revision(registry: CompositionRegistry) -> u64
+    ensures { λ r. ⌜ r ≡ registry .revision ⌝ }
+{
+    registry.revision
+}
+
+pub fn live_window_count(registry: CompositionRegistry) -> usize
+    ensures { λ r. ⌜ r ≡ registry .windows .live ⌝ }
+{
+    let arena = registry.windows;
+    arena.live
+}
+
+pub fn live_view_count(registry: CompositionRegistry) -> usize
+    ensures { λ r. ⌜ r ≡ registry .views .arena .live ⌝ }
+{
+    let views = registry.views;
+    let arena = views.arena;
+    arena.live
+}
+
+pub fn live_surface_count(registry: CompositionRegistry) -> usize
+    ensures { λ r. ⌜ r ≡ registry .surfaces .arena .live ⌝ }
+{
+    let surfaces = registry.surfaces;
+    let arena = surfaces.arena;
+    arena.live
 }

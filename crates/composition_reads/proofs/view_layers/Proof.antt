@@ -1,4 +1,4 @@
--- `view_layers` meets its contract: what is refused, beside the layers of the record.
+-- `view_layers` meets its contract: each callee's answer is put into the definition.
 use borrow.Author.Needs.{needs}
 use Rattle.composition_reads.proofs.view_layers.Statement.{statement}
 use Rattle.composition_reads.proofs.view_layers.Tie as tie
@@ -9,8 +9,12 @@ view-read-refusal-requires c κs = search needs
 record-requires : tie.Need-record-requires
 record-requires c κs = search needs
 
+describe-requires : tie.Need-describe-requires
+describe-requires c κs = search needs
+
 returns : tie.Need-returns
-returns c = rw (c .before .«record» .ensures, c .before .before .before .view-read-refusal .ensures)
+returns c = rw (c .describe .ensures, c .before .before .before .«record» .ensures, c .before .before .before .before .before .view-read-refusal .ensures)
 
 pub view-layers-spec : {M : Type 1} → statement M
-view-layers-spec = tie.close (tie.spec view-read-refusal-requires record-requires returns)
+view-layers-spec =
+    tie.close (tie.spec view-read-refusal-requires record-requires describe-requires returns)
