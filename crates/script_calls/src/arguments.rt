@@ -1,4 +1,6 @@
 // The arguments of each call: a call where the line has as many fields as the verb asks for and each is in its range.
+ghost use mathlib.Core.Path.{_≡_};
+ghost use Rattle.script_calls.specs.Calls.{callIf, startAt, startFits, handleRevision, pointerRevision, digestCall, newCall, newAtCall, deviceCall, metricsCall, attachCall, geometryCall, policyCall, focusCall};
 use crate::calls::Call;
 use crate::calls::DeviceArguments;
 use crate::calls::FocusArguments;
@@ -11,6 +13,7 @@ use crate::calls::PointerArguments;
 use crate::calls::PolicyArguments;
 use crate::calls::Start;
 use crate::geometry_fields::descriptor_field;
+use crate::geometry_fields::flag_field;
 use crate::geometry_fields::geometry_field;
 use crate::geometry_fields::metrics_field;
 use crate::geometry_fields::policy_field;
@@ -21,12 +24,12 @@ use crate::groups::pointer_field;
 use crate::groups::u32_field;
 use crate::groups::u64_field;
 use lists::both;
-use script::fields::as_flag;
-use script::fields::field;
 use script::line::Fields;
 
 // The call, if the line has the right number of fields and they fit.
-pub fn call_if(call: Call, count: usize, expected: usize, fits: bool) -> Call {
+pub fn call_if(call: Call, count: usize, expected: usize, fits: bool) -> Call
+    ensures { λ r. ⌜ r ≡ callIf call count expected fits ⌝ }
+{
     if count == expected {
         if fits {
             return call;
@@ -35,12 +38,16 @@ pub fn call_if(call: Call, count: usize, expected: usize, fits: bool) -> Call {
     Call::NoCall
 }
 
-pub fn digest(fields: Fields) -> Call {
-    let on = as_flag(field(fields, 0));
+pub fn digest(fields: Fields) -> Call
+    ensures { λ r. ⌜ r ≡ digestCall fields ⌝ }
+{
+    let on = flag_field(fields, 0);
     call_if(Call::Digest(on.value), fields.count, 1, on.fits)
 }
 
-fn start(fields: Fields, first_revision: u64, first_generation: u32) -> Start {
+fn start(fields: Fields, first_revision: u64, first_generation: u32) -> Start
+    ensures { λ r. ⌜ r ≡ startAt fields «first_revision» «first_generation» ⌝ }
+{
     let owner = handle_field(fields, 0);
     let limited = limits_field(fields, 3);
     let session = owner.handle;
@@ -55,19 +62,25 @@ fn start(fields: Fields, first_revision: u64, first_generation: u32) -> Start {
     }
 }
 
-fn start_fits(fields: Fields) -> bool {
+fn start_fits(fields: Fields) -> bool
+    ensures { λ r. ⌜ r ≡ startFits fields ⌝ }
+{
     let owner = handle_field(fields, 0);
     let epoch = u64_field(fields, 2);
     let limited = limits_field(fields, 3);
     both(owner.fits, both(epoch.fits, limited.fits))
 }
 
-pub fn new_call(fields: Fields) -> Call {
+pub fn new_call(fields: Fields) -> Call
+    ensures { λ r. ⌜ r ≡ newCall fields ⌝ }
+{
     let given = start(fields, 0, 1);
     call_if(Call::New(given), fields.count, 8, start_fits(fields))
 }
 
-pub fn new_at_call(fields: Fields) -> Call {
+pub fn new_at_call(fields: Fields) -> Call
+    ensures { λ r. ⌜ r ≡ newAtCall fields ⌝ }
+{
     let revision = u64_field(fields, 8);
     let generation = u32_field(fields, 9);
     let given = start(fields, revision.value, generation.value);
@@ -75,7 +88,9 @@ pub fn new_at_call(fields: Fields) -> Call {
     call_if(Call::New(given), fields.count, 10, fits)
 }
 
-pub fn device(fields: Fields) -> Call {
+pub fn device(fields: Fields) -> Call
+    ensures { λ r. ⌜ r ≡ deviceCall fields ⌝ }
+{
     let value = u64_field(fields, 0);
     let generation = u32_field(fields, 1);
     let given = DeviceArguments {
@@ -90,7 +105,9 @@ pub fn device(fields: Fields) -> Call {
     )
 }
 
-pub fn metrics(fields: Fields) -> Call {
+pub fn metrics(fields: Fields) -> Call
+    ensures { λ r. ⌜ r ≡ metricsCall fields ⌝ }
+{
     let named = handle_field(fields, 0);
     let measured = metrics_field(fields, 2);
     let revision = u64_field(fields, 14);
@@ -106,14 +123,18 @@ pub fn metrics(fields: Fields) -> Call {
     call_if(call, fields.count, 15, fits)
 }
 
-pub fn attach(fields: Fields) -> Call {
+pub fn attach(fields: Fields) -> Call
+    ensures { λ r. ⌜ r ≡ attachCall fields ⌝ }
+{
     let described = descriptor_field(fields, 0);
     let descriptor = described.descriptor;
     let call = Call::Panel(PanelCall::AttachSurface(descriptor));
     call_if(call, fields.count, 24, described.fits)
 }
 
-pub fn shape(fields: Fields) -> Call {
+pub fn shape(fields: Fields) -> Call
+    ensures { λ r. ⌜ r ≡ geometryCall fields ⌝ }
+{
     let named = handle_field(fields, 0);
     let shaped = geometry_field(fields, 2);
     let revision = u64_field(fields, 20);
@@ -129,7 +150,9 @@ pub fn shape(fields: Fields) -> Call {
     call_if(call, fields.count, 21, fits)
 }
 
-pub fn policy(fields: Fields) -> Call {
+pub fn policy(fields: Fields) -> Call
+    ensures { λ r. ⌜ r ≡ policyCall fields ⌝ }
+{
     let named = handle_field(fields, 0);
     let chosen = policy_field(fields, 2);
     let revision = u64_field(fields, 3);
@@ -145,7 +168,9 @@ pub fn policy(fields: Fields) -> Call {
     call_if(call, fields.count, 4, fits)
 }
 
-pub fn focus(fields: Fields) -> Call {
+pub fn focus(fields: Fields) -> Call
+    ensures { λ r. ⌜ r ≡ focusCall fields ⌝ }
+{
     let named = handle_field(fields, 0);
     let target = optional_field(fields, 2);
     let revision = u64_field(fields, 5);
@@ -171,7 +196,9 @@ pub struct HandleRevision {
 }
 
 // A handle and the expected revision.
-pub fn handle_revision(fields: Fields) -> HandleRevision {
+pub fn handle_revision(fields: Fields) -> HandleRevision
+    ensures { λ r. ⌜ r ≡ handleRevision fields ⌝ }
+{
     let named = handle_field(fields, 0);
     let revision = u64_field(fields, 2);
     let handle = named.handle;
@@ -191,7 +218,9 @@ pub struct PointerRevision {
 }
 
 // A pointer, a panel and the expected revision.
-pub fn pointer_revision(fields: Fields) -> PointerRevision {
+pub fn pointer_revision(fields: Fields) -> PointerRevision
+    ensures { λ r. ⌜ r ≡ pointerRevision fields ⌝ }
+{
     let pointed = pointer_field(fields, 0);
     let named = handle_field(fields, 3);
     let revision = u64_field(fields, 5);

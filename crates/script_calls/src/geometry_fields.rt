@@ -1,5 +1,7 @@
 // The fields of metrics, geometry and descriptors.
+ghost use mathlib.Core.Path.{_≡_};
 ghost use Prim.Native.Nat.{_≤_};
+ghost use Rattle.script_calls.specs.Shapes.{i32At, flagAt, isZeroAt, areZeroAt, rectOf, rectAt, transformAt, geometryAt, policyOf, policyAt, kindOf, kindAt, visibilityOf, visibilityAt, insetsAt, metricsAt, descriptorAt};
 use crate::groups::handle_field;
 use crate::groups::u32_field;
 use composition_state::surface::SurfaceDescriptor;
@@ -13,6 +15,7 @@ use geometry::rect::SurfaceRect;
 use geometry::surface::SurfaceGeometry;
 use geometry::transform::SurfaceTransform;
 use lists::both;
+use script::fields::FieldFlag;
 use script::fields::FieldI32;
 use script::fields::as_at_most;
 use script::fields::as_flag;
@@ -66,22 +69,37 @@ pub struct DescriptorField {
     pub fits: bool,
 }
 
-fn i32_field(fields: Fields, i: usize) -> FieldI32 {
+fn i32_field(fields: Fields, i: usize) -> FieldI32
+    ensures { λ r. ⌜ r ≡ i32At fields i ⌝ }
+{
     as_i32(field(fields, i))
 }
 
-fn is_zero(r: SurfaceRect) -> bool {
-    if r.x_milli == 0 {
-        if r.y_milli == 0 {
-            if r.width_milli == 0 {
-                return r.height_milli == 0;
-            }
-        }
-    }
-    false
+pub fn flag_field(fields: Fields, i: usize) -> FieldFlag
+    ensures { λ r. ⌜ r ≡ flagAt fields i ⌝ }
+{
+    as_flag(field(fields, i))
 }
 
-fn optional_rect(is_present: bool, rect: SurfaceRect, fits: bool) -> RectField {
+fn is_zero(fields: Fields, i: usize) -> bool
+    ensures { λ r. ⌜ r ≡ isZeroAt fields i ⌝ }
+{
+    let number = field(fields, i);
+    number.magnitude == 0
+}
+
+// Whether the four numbers behind a flag are 0.
+fn are_zero(fields: Fields, i: usize) -> bool
+    requires { ⌜ i ≤ 4096 ⌝ }
+    ensures { λ r. ⌜ r ≡ areZeroAt fields i ⌝ }
+{
+    let sides = both(is_zero(fields, i + 3), is_zero(fields, i + 4));
+    both(is_zero(fields, i + 1), both(is_zero(fields, i + 2), sides))
+}
+
+fn optional_rect(is_present: bool, rect: SurfaceRect, fits: bool, zeros: bool) -> RectField
+    ensures { λ r. ⌜ r ≡ rectOf «is_present» rect fits zeros ⌝ }
+{
     if is_present {
         return RectField {
             rect: OptionalRect::Some(rect),
@@ -90,15 +108,16 @@ fn optional_rect(is_present: bool, rect: SurfaceRect, fits: bool) -> RectField {
     }
     RectField {
         rect: OptionalRect::None,
-        fits: both(fits, is_zero(rect)),
+        fits: both(fits, zeros),
     }
 }
 
 // R: a flag, then a rectangle, which is zeros where there is none.
 fn rect_field(fields: Fields, i: usize) -> RectField
     requires { ⌜ i ≤ 4096 ⌝ }
+    ensures { λ r. ⌜ r ≡ rectAt fields i ⌝ }
 {
-    let present = as_flag(field(fields, i));
+    let present = flag_field(fields, i);
     let x = i32_field(fields, i + 1);
     let y = i32_field(fields, i + 2);
     let width = u32_field(fields, i + 3);
@@ -110,15 +129,13 @@ fn rect_field(fields: Fields, i: usize) -> RectField
         height_milli: height.value,
     };
     let sides = both(width.fits, height.fits);
-    optional_rect(
-        present.value,
-        rect,
-        both(present.fits, both(x.fits, both(y.fits, sides))),
-    )
+    let fits = both(present.fits, both(x.fits, both(y.fits, sides)));
+    optional_rect(present.value, rect, fits, are_zero(fields, i))
 }
 
 fn transform_field(fields: Fields, i: usize) -> TransformField
     requires { ⌜ i ≤ 4096 ⌝ }
+    ensures { λ r. ⌜ r ≡ transformAt fields i ⌝ }
 {
     let m11 = i32_field(fields, i);
     let m12 = i32_field(fields, i + 1);
@@ -144,12 +161,13 @@ fn transform_field(fields: Fields, i: usize) -> TransformField
 // G: bounds, clip, matrix, opacity, hit testing.
 pub fn geometry_field(fields: Fields, i: usize) -> GeometryField
     requires { ⌜ i ≤ 1024 ⌝ }
+    ensures { λ r. ⌜ r ≡ geometryAt fields i ⌝ }
 {
     let bounded = rect_field(fields, i);
     let clipped = rect_field(fields, i + 5);
     let placed = transform_field(fields, i + 10);
     let opacity = as_u16(field(fields, i + 16));
-    let hit_test = as_flag(field(fields, i + 17));
+    let hit_test = flag_field(fields, i + 17);
     let bounds = bounded.rect;
     let clip = clipped.rect;
     let transform = placed.transform;
@@ -167,7 +185,9 @@ pub fn geometry_field(fields: Fields, i: usize) -> GeometryField
     }
 }
 
-fn policy_of(n: u64) -> SurfaceInputPolicy {
+fn policy_of(n: u64) -> SurfaceInputPolicy
+    ensures { λ r. ⌜ r ≡ policyOf n ⌝ }
+{
     if n == 0 {
         return SurfaceInputPolicy::Observe;
     }
@@ -180,7 +200,9 @@ fn policy_of(n: u64) -> SurfaceInputPolicy {
     SurfaceInputPolicy::Exclusive
 }
 
-pub fn policy_field(fields: Fields, i: usize) -> PolicyField {
+pub fn policy_field(fields: Fields, i: usize) -> PolicyField
+    ensures { λ r. ⌜ r ≡ policyAt fields i ⌝ }
+{
     let read = as_at_most(field(fields, i), 3);
     PolicyField {
         input: policy_of(read.value),
@@ -188,7 +210,9 @@ pub fn policy_field(fields: Fields, i: usize) -> PolicyField {
     }
 }
 
-fn kind_of(n: u64) -> SurfaceKind {
+fn kind_of(n: u64) -> SurfaceKind
+    ensures { λ r. ⌜ r ≡ kindOf n ⌝ }
+{
     if n == 0 {
         return SurfaceKind::Game;
     }
@@ -198,7 +222,9 @@ fn kind_of(n: u64) -> SurfaceKind {
     SurfaceKind::Diagnostics
 }
 
-fn kind_field(fields: Fields, i: usize) -> KindField {
+fn kind_field(fields: Fields, i: usize) -> KindField
+    ensures { λ r. ⌜ r ≡ kindAt fields i ⌝ }
+{
     let read = as_at_most(field(fields, i), 2);
     KindField {
         kind: kind_of(read.value),
@@ -206,7 +232,9 @@ fn kind_field(fields: Fields, i: usize) -> KindField {
     }
 }
 
-fn visibility_of(n: u64) -> ViewVisibility {
+fn visibility_of(n: u64) -> ViewVisibility
+    ensures { λ r. ⌜ r ≡ visibilityOf n ⌝ }
+{
     if n == 0 {
         return ViewVisibility::Visible;
     }
@@ -216,7 +244,9 @@ fn visibility_of(n: u64) -> ViewVisibility {
     ViewVisibility::Suspended
 }
 
-fn visibility_field(fields: Fields, i: usize) -> VisibilityField {
+fn visibility_field(fields: Fields, i: usize) -> VisibilityField
+    ensures { λ r. ⌜ r ≡ visibilityAt fields i ⌝ }
+{
     let read = as_at_most(field(fields, i), 2);
     VisibilityField {
         visibility: visibility_of(read.value),
@@ -226,6 +256,7 @@ fn visibility_field(fields: Fields, i: usize) -> VisibilityField {
 
 fn insets_field(fields: Fields, i: usize) -> InsetsField
     requires { ⌜ i ≤ 4096 ⌝ }
+    ensures { λ r. ⌜ r ≡ insetsAt fields i ⌝ }
 {
     let top = u32_field(fields, i);
     let right = u32_field(fields, i + 1);
@@ -246,6 +277,7 @@ fn insets_field(fields: Fields, i: usize) -> InsetsField
 // Metrics without their revision: 12 fields.
 pub fn metrics_field(fields: Fields, i: usize) -> MetricsField
     requires { ⌜ i ≤ 256 ⌝ }
+    ensures { λ r. ⌜ r ≡ metricsAt fields i ⌝ }
 {
     let x = i32_field(fields, i);
     let y = i32_field(fields, i + 1);
@@ -283,12 +315,13 @@ pub fn metrics_field(fields: Fields, i: usize) -> MetricsField
 // D: view, kind, z order, policy, text, geometry.
 pub fn descriptor_field(fields: Fields, i: usize) -> DescriptorField
     requires { ⌜ i ≤ 256 ⌝ }
+    ensures { λ r. ⌜ r ≡ descriptorAt fields i ⌝ }
 {
     let owner = handle_field(fields, i);
     let kinded = kind_field(fields, i + 2);
     let z_order = i32_field(fields, i + 3);
     let policy = policy_field(fields, i + 4);
-    let text = as_flag(field(fields, i + 5));
+    let text = flag_field(fields, i + 5);
     let shaped = geometry_field(fields, i + 6);
     let view = owner.handle;
     let kind = kinded.kind;

@@ -1,5 +1,7 @@
 // The groups of fields that stand in a line from an index on, and whether each field is in its range.
+ghost use mathlib.Core.Path.{_≡_};
 ghost use Prim.Native.Nat.{_≤_};
+ghost use Rattle.script_calls.specs.Groups.{u32At, u64At, handleAt, isZeroHandle, optionalOf, optionalAt, pointerAt, limitsAt};
 use composition_state::registry::CompositionLimits;
 use handles::handle::GenerationalHandle;
 use handles::handle::OptionalHandle;
@@ -33,17 +35,22 @@ pub struct LimitsField {
     pub fits: bool,
 }
 
-pub fn u32_field(fields: Fields, i: usize) -> FieldU32 {
+pub fn u32_field(fields: Fields, i: usize) -> FieldU32
+    ensures { λ r. ⌜ r ≡ u32At fields i ⌝ }
+{
     as_u32(field(fields, i))
 }
 
-pub fn u64_field(fields: Fields, i: usize) -> FieldU64 {
+pub fn u64_field(fields: Fields, i: usize) -> FieldU64
+    ensures { λ r. ⌜ r ≡ u64At fields i ⌝ }
+{
     as_u64(field(fields, i))
 }
 
 // H: index, generation.
 pub fn handle_field(fields: Fields, i: usize) -> HandleField
     requires { ⌜ i ≤ 4096 ⌝ }
+    ensures { λ r. ⌜ r ≡ handleAt fields i ⌝ }
 {
     let index = u32_field(fields, i);
     let generation = u32_field(fields, i + 1);
@@ -57,22 +64,16 @@ pub fn handle_field(fields: Fields, i: usize) -> HandleField
     }
 }
 
-fn is_zero(h: GenerationalHandle) -> bool {
-    if h.index == 0 {
-        return h.generation == 0;
-    }
-    false
+fn is_zero(h: GenerationalHandle) -> bool
+    ensures { λ r. ⌜ r ≡ isZeroHandle h ⌝ }
+{
+    both(h.index == 0, h.generation == 0)
 }
 
-// O: a flag, then a handle, which is zeros where there is none.
-pub fn optional_field(fields: Fields, i: usize) -> OptionalField
-    requires { ⌜ i ≤ 256 ⌝ }
+fn optional(is_present: bool, fits: bool, handle: GenerationalHandle) -> OptionalField
+    ensures { λ r. ⌜ r ≡ optionalOf «is_present» fits handle ⌝ }
 {
-    let present = as_flag(field(fields, i));
-    let named = handle_field(fields, i + 1);
-    let handle = named.handle;
-    let fits = both(present.fits, named.fits);
-    if present.value {
+    if is_present {
         return OptionalField {
             value: OptionalHandle::Some(handle),
             fits,
@@ -84,9 +85,21 @@ pub fn optional_field(fields: Fields, i: usize) -> OptionalField
     }
 }
 
+// O: a flag, then a handle, which is zeros where there is none.
+pub fn optional_field(fields: Fields, i: usize) -> OptionalField
+    requires { ⌜ i ≤ 256 ⌝ }
+    ensures { λ r. ⌜ r ≡ optionalAt fields i ⌝ }
+{
+    let present = as_flag(field(fields, i));
+    let named = handle_field(fields, i + 1);
+    let handle = named.handle;
+    optional(present.value, both(present.fits, named.fits), handle)
+}
+
 // K: device, device generation, contact.
 pub fn pointer_field(fields: Fields, i: usize) -> PointerField
     requires { ⌜ i ≤ 4096 ⌝ }
+    ensures { λ r. ⌜ r ≡ pointerAt fields i ⌝ }
 {
     let device = u64_field(fields, i);
     let generation = u32_field(fields, i + 1);
@@ -105,6 +118,7 @@ pub fn pointer_field(fields: Fields, i: usize) -> PointerField
 // The five limits of a start.
 pub fn limits_field(fields: Fields, i: usize) -> LimitsField
     requires { ⌜ i ≤ 4096 ⌝ }
+    ensures { λ r. ⌜ r ≡ limitsAt fields i ⌝ }
 {
     let windows = u64_field(fields, i);
     let views = u64_field(fields, i + 1);
@@ -118,9 +132,9 @@ pub fn limits_field(fields: Fields, i: usize) -> LimitsField
         max_surfaces_per_view: per_view.value,
         max_trace_entries: traces.value,
     };
-    let rest = both(surfaces.fits, both(per_view.fits, traces.fits));
+    let last = both(surfaces.fits, both(per_view.fits, traces.fits));
     LimitsField {
         limits,
-        fits: both(windows.fits, both(views.fits, rest)),
+        fits: both(windows.fits, both(views.fits, last)),
     }
 }

@@ -1,4 +1,7 @@
 // The call that a line is, by its verb.
+ghost use mathlib.Core.Path.{_≡_};
+ghost use Rattle.script_calls.specs.Groups.{handleAt};
+ghost use Rattle.script_calls.specs.Calls.{ifEmpty, ifHandle, ifRevision, ifPointer, handleRevision, pointerRevision, callOf};
 use crate::arguments::call_if;
 use crate::arguments::handle_revision;
 use crate::arguments::pointer_revision;
@@ -14,100 +17,116 @@ use script::line::Fields;
 use script::line::Line;
 use script::verb::Verb;
 
-// The calls whose one argument is a handle.
-fn handle_call(verb: Verb, h: GenerationalHandle) -> Call {
-    match verb {
-        Verb::CloseWindow => Call::Panel(PanelCall::CloseWindow(h)),
-        Verb::CreateView => Call::Panel(PanelCall::CreateView(h)),
-        Verb::CloseView => Call::Panel(PanelCall::CloseView(h)),
-        Verb::ViewWindow => Call::Read(ReadCall::ViewWindow(h)),
-        Verb::ViewMetrics => Call::Read(ReadCall::ViewMetrics(h)),
-        Verb::ViewInputState => Call::Read(ReadCall::ViewInputState(h)),
-        Verb::ViewPointerCaptures => Call::Read(ReadCall::ViewPointerCaptures(h)),
-        Verb::SurfaceDescriptor => Call::Read(ReadCall::SurfaceDescriptor(h)),
-        Verb::ViewLayers => Call::Read(ReadCall::ViewLayers(h)),
-        _ => Call::NoCall,
-    }
-}
-
-// The calls whose arguments are a handle and the expected revision.
-fn revision_call(verb: Verb, given: HandleArguments) -> Call {
-    match verb {
-        Verb::CapturePointer => Call::Input(InputCall::CapturePointer(given)),
-        Verb::ReleasePointer => Call::Input(InputCall::ReleasePointer(given)),
-        Verb::BeginIme => Call::Input(InputCall::BeginIme(given)),
-        Verb::EndIme => Call::Input(InputCall::EndIme(given)),
-        Verb::SuspendViewInput => Call::Input(InputCall::SuspendViewInput(given)),
-        _ => Call::NoCall,
-    }
-}
-
-fn pointer_call(verb: Verb, given: PointerArguments) -> Call {
-    match verb {
-        Verb::CapturePointerFor => Call::Input(InputCall::CapturePointerFor(given)),
-        Verb::ReleasePointerFor => Call::Input(InputCall::ReleasePointerFor(given)),
-        _ => Call::NoCall,
-    }
-}
-
-fn read_handle_call(verb: Verb, fields: Fields) -> Call {
-    let named = handle_field(fields, 0);
-    let handle = named.handle;
-    call_if(handle_call(verb, handle), fields.count, 2, named.fits)
-}
-
-fn read_revision_call(verb: Verb, fields: Fields) -> Call {
-    let read = handle_revision(fields);
-    let given = read.given;
-    call_if(revision_call(verb, given), fields.count, 3, read.fits)
-}
-
-fn read_pointer_call(verb: Verb, fields: Fields) -> Call {
-    let read = pointer_revision(fields);
-    let given = read.given;
-    call_if(pointer_call(verb, given), fields.count, 6, read.fits)
-}
-
-fn without_fields(call: Call, fields: Fields) -> Call {
+fn if_empty(call: Call, fields: Fields) -> Call
+    ensures { λ r. ⌜ r ≡ ifEmpty call fields ⌝ }
+{
     call_if(call, fields.count, 0, true)
 }
 
+// A call whose one argument is a handle.
+fn if_handle(call: Call, fields: Fields) -> Call
+    ensures { λ r. ⌜ r ≡ ifHandle call fields ⌝ }
+{
+    let named = handle_field(fields, 0);
+    call_if(call, fields.count, 2, named.fits)
+}
+
+// A call whose arguments are a handle and the expected revision.
+fn if_revision(call: Call, fields: Fields) -> Call
+    ensures { λ r. ⌜ r ≡ ifRevision call fields ⌝ }
+{
+    let read = handle_revision(fields);
+    call_if(call, fields.count, 3, read.fits)
+}
+
+// A call whose arguments are a pointer, a panel and the expected revision.
+fn if_pointer(call: Call, fields: Fields) -> Call
+    ensures { λ r. ⌜ r ≡ ifPointer call fields ⌝ }
+{
+    let read = pointer_revision(fields);
+    call_if(call, fields.count, 6, read.fits)
+}
+
+fn first_handle(fields: Fields) -> GenerationalHandle
+    ensures { λ r. ⌜ r ≡ handleAt fields 0 .handle ⌝ }
+{
+    let named = handle_field(fields, 0);
+    named.handle
+}
+
+fn first_arguments(fields: Fields) -> HandleArguments
+    ensures { λ r. ⌜ r ≡ handleRevision fields .given ⌝ }
+{
+    let read = handle_revision(fields);
+    read.given
+}
+
+fn pointer_arguments(fields: Fields) -> PointerArguments
+    ensures { λ r. ⌜ r ≡ pointerRevision fields .given ⌝ }
+{
+    let read = pointer_revision(fields);
+    read.given
+}
+
 // The call of a verb with its fields. A verb that is not carried yet is no call.
-fn read_fields(verb: Verb, fields: Fields) -> Call {
+fn read_fields(verb: Verb, fields: Fields) -> Call
+    ensures { λ r. ⌜ r ≡ callOf verb fields ⌝ }
+{
+    let h = first_handle(fields);
+    let a = first_arguments(fields);
+    let p = pointer_arguments(fields);
     match verb {
+        Verb::Unknown => Call::NoCall,
         Verb::Digest => crate::arguments::digest(fields),
         Verb::New => crate::arguments::new_call(fields),
         Verb::NewAt => crate::arguments::new_at_call(fields),
-        Verb::CreateWindow => without_fields(Call::Panel(PanelCall::CreateWindow), fields),
-        Verb::CloseWindow => read_handle_call(Verb::CloseWindow, fields),
-        Verb::CreateView => read_handle_call(Verb::CreateView, fields),
+        Verb::Router => Call::NoCall,
+        Verb::CreateWindow => if_empty(Call::Panel(PanelCall::CreateWindow), fields),
+        Verb::CloseWindow => if_handle(Call::Panel(PanelCall::CloseWindow(h)), fields),
+        Verb::CreateView => if_handle(Call::Panel(PanelCall::CreateView(h)), fields),
         Verb::UpdateViewMetrics => crate::arguments::metrics(fields),
-        Verb::CloseView => read_handle_call(Verb::CloseView, fields),
+        Verb::CloseView => if_handle(Call::Panel(PanelCall::CloseView(h)), fields),
         Verb::AttachSurface => crate::arguments::attach(fields),
         Verb::UpdateSurfaceGeometry => crate::arguments::shape(fields),
         Verb::UpdateSurfaceInputPolicy => crate::arguments::policy(fields),
+        Verb::RegisterSurfaceSystemShortcutSet => Call::NoCall,
         Verb::SetFocus => crate::arguments::focus(fields),
-        Verb::CapturePointer => read_revision_call(Verb::CapturePointer, fields),
-        Verb::CapturePointerFor => read_pointer_call(Verb::CapturePointerFor, fields),
-        Verb::ReleasePointer => read_revision_call(Verb::ReleasePointer, fields),
-        Verb::ReleasePointerFor => read_pointer_call(Verb::ReleasePointerFor, fields),
+        Verb::CapturePointer => if_revision(Call::Input(InputCall::CapturePointer(a)), fields),
+        Verb::CapturePointerFor => if_pointer(Call::Input(InputCall::CapturePointerFor(p)), fields),
+        Verb::ReleasePointer => if_revision(Call::Input(InputCall::ReleasePointer(a)), fields),
+        Verb::ReleasePointerFor => if_pointer(Call::Input(InputCall::ReleasePointerFor(p)), fields),
         Verb::ReleaseDevicePointerCaptures => crate::arguments::device(fields),
-        Verb::BeginIme => read_revision_call(Verb::BeginIme, fields),
-        Verb::EndIme => read_revision_call(Verb::EndIme, fields),
-        Verb::SuspendViewInput => read_revision_call(Verb::SuspendViewInput, fields),
-        Verb::ViewWindow => read_handle_call(Verb::ViewWindow, fields),
-        Verb::ViewMetrics => read_handle_call(Verb::ViewMetrics, fields),
-        Verb::ViewInputState => read_handle_call(Verb::ViewInputState, fields),
-        Verb::ViewPointerCaptures => read_handle_call(Verb::ViewPointerCaptures, fields),
-        Verb::SurfaceDescriptor => read_handle_call(Verb::SurfaceDescriptor, fields),
-        Verb::ViewLayers => read_handle_call(Verb::ViewLayers, fields),
-        Verb::Counts => without_fields(Call::Read(ReadCall::Counts), fields),
-        Verb::State => without_fields(Call::Read(ReadCall::State), fields),
-        _ => Call::NoCall,
+        Verb::BeginIme => if_revision(Call::Input(InputCall::BeginIme(a)), fields),
+        Verb::EndIme => if_revision(Call::Input(InputCall::EndIme(a)), fields),
+        Verb::SuspendViewInput => if_revision(Call::Input(InputCall::SuspendViewInput(a)), fields),
+        Verb::Arbitrate => Call::NoCall,
+        Verb::CloseSurface => Call::NoCall,
+        Verb::Shutdown => Call::NoCall,
+        Verb::HitTestStack => Call::NoCall,
+        Verb::InversePoint => Call::NoCall,
+        Verb::Route => Call::NoCall,
+        Verb::ReleaseSurface => Call::NoCall,
+        Verb::ReleaseAll => Call::NoCall,
+        Verb::ViewWindow => if_handle(Call::Read(ReadCall::ViewWindow(h)), fields),
+        Verb::ViewMetrics => if_handle(Call::Read(ReadCall::ViewMetrics(h)), fields),
+        Verb::ViewInputState => if_handle(Call::Read(ReadCall::ViewInputState(h)), fields),
+        Verb::ViewPointerCaptures => if_handle(
+            Call::Read(ReadCall::ViewPointerCaptures(h)),
+            fields,
+        ),
+        Verb::SurfaceDescriptor => if_handle(Call::Read(ReadCall::SurfaceDescriptor(h)), fields),
+        Verb::ViewLayers => if_handle(Call::Read(ReadCall::ViewLayers(h)), fields),
+        Verb::Traces => Call::NoCall,
+        Verb::Counts => if_empty(Call::Read(ReadCall::Counts), fields),
+        Verb::ActiveBindingCount => Call::NoCall,
+        Verb::State => if_empty(Call::Read(ReadCall::State), fields),
+        Verb::RouterState => Call::NoCall,
     }
 }
 
-pub fn read_call(line: Line) -> Call {
+pub fn read_call(line: Line) -> Call
+    ensures { λ r. ⌜ r ≡ callOf (line .verb) (line .fields) ⌝ }
+{
     let verb = line.verb;
     let fields = line.fields;
     read_fields(verb, fields)
