@@ -4,22 +4,37 @@ use mathlib.Core.Path.{_≡_, refl, sym, ap, _∙_}
 use mathlib.Core.Bool.{Bool, true, false}
 use native.Mathlib.Omega.{arith}
 use lib.Dec.{eqb}
-use Rattle.lists.proofs.ListLaws.{by-test}
+use Rattle.lists.proofs.ListLaws.{by-test, clash}
 use Rattle.composition_state.specs.declared.error.CompositionError.{CompositionError}
 use Rattle.composition_state.specs.declared.error.CompositionError.the-variants.{RevisionExhausted}
 use Rattle.composition_state.specs.declared.error.Outcome.{Outcome}
 use Rattle.composition_state.specs.declared.error.Outcome.the-variants.{Accepted, Refused}
 use Rattle.composition_state.specs.declared.registry.CompositionRegistry.{CompositionRegistry}
+use Rattle.composition_state.specs.Errors.{thenRefusal, refusalIf, isAccepted}
 use Rattle.composition_state.specs.Registry.{withRevision, advanced, settled}
 use Rattle.composition_state.specs.Settles.{Settles}
 
 -- the last revision
-abbrev last : ℕ
+abbrev pub last : ℕ
 last = 18446744073709551615
 
 refused≢accepted {ℓ} : {P : Type ℓ} {e : CompositionError} → Refused e ≡ Accepted → P
 refused≢accepted {P} {e} q = let z : _≡_ {A = ℕ} 0 1 = cc in absurd (omega arith)
 
+-- ---- an accepted outcome: what each check of it was
+pub accepted-eq : (o : Outcome) → isAccepted o ≡ true → o ≡ Accepted
+accepted-eq Accepted t = refl
+accepted-eq (Refused e) t = clash t refl
+
+pub then-last : (a b : Outcome) → thenRefusal a b ≡ Accepted → b ≡ Accepted
+then-last Accepted b h = h
+then-last (Refused e) b h = refused≢accepted h
+
+pub if-accepted : (t : Bool) (e : CompositionError) → refusalIf t e ≡ Accepted → t ≡ false
+if-accepted true e h = refused≢accepted h
+if-accepted false e h = refl
+
+-- ---- what is settled
 same-error : {e f : CompositionError} → Refused e ≡ Refused f → e ≡ f
 same-error {e} {f} q = cc
 
@@ -44,6 +59,17 @@ advanced-refused c e h = by-test (eqb (c .revision) last)
 pub refused-is : (o : Outcome) (r c : CompositionRegistry) (e : CompositionError) → settled o r c .outcome ≡ Refused e → (e ≡ RevisionExhausted → ⊥) → settled o r c .registry ≡ r
 refused-is Accepted r c e h n = absurd (n (advanced-refused c e h))
 refused-is (Refused f) r c e h n = refl
+
+pub settled-accepted : (o : Outcome) (r c : CompositionRegistry) → settled o r c .outcome ≡ Accepted → o ≡ Accepted
+settled-accepted Accepted r c h = refl
+settled-accepted (Refused e) r c h = refused≢accepted h
+
+-- where 21 is among the checks, every refusal leaves the registry as it came
+pub refused-early : (o : Outcome) (r c : CompositionRegistry) (e : CompositionError) → (o ≡ Accepted → eqb (c .revision) last ≡ false)
+    → settled o r c .outcome ≡ Refused e → settled o r c .registry ≡ r
+unfolding advanced
+refused-early Accepted r c e room h = refused≢accepted (sym (simp (room refl) at h))
+refused-early (Refused f) r c e room h = refl
 
 pub settles : (o : Outcome) (r c : CompositionRegistry) → c .revision ≡ r .revision → Settles r (settled o r c .outcome) (settled o r c .registry)
 settles o r c same = record {

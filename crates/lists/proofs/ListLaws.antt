@@ -1,7 +1,7 @@
 -- Laws of the lists by a test and of a list in an array, at any element type, by induction on the list.
 use mathlib.Core.Path.{_≡_, refl, sym, ap, _∙_}
 use mathlib.Core.Bool.{Bool, true, false, cond, not, _&&_, true≢false}
-use mathlib.Core.List.{List, [], _∷_, _++_, append-assoc, append-nil, map}
+use mathlib.Core.List.{List, [], _∷_, _++_, append-assoc, append-nil, map, reverse, reverse-append, reverse-cons}
 use mathlib.Core.Option.{Option, none, some}
 use Prim.Native.Nat.{ℕ, zero, suc, _+_, _-_, _≤_, _<_}
 use native.Mathlib.Numerals.{add-one}
@@ -42,6 +42,10 @@ pub map-snoc : {E F : Type 0} (f : E → F) (l : List E) (e : E) → map f (l ++
 map-snoc f [] e = refl
 map-snoc f (x ∷ l) e = ap (λ r. f x ∷ r) (map-snoc f l e)
 
+pub map-append : {E F : Type 0} (f : E → F) (a b : List E) → map f (a ++ b) ≡ map f a ++ map f b
+map-append f [] b = refl
+map-append f (x ∷ a) b = ap (λ r. f x ∷ r) (map-append f a b)
+
 module _ {E : Type 0} where
   -- past the end of an array a write does nothing and a read is the default
   pub past-set : (l : List E) (i n : ℕ) (a : E) → length l ≡ n → n ≤ i → l ≡ set l i a
@@ -79,6 +83,13 @@ module _ {E : Type 0} where
   keep-swap p q (e ∷ l) = by-test (p e)
       (λ t. by-test (q e) (λ u. simp (t, u, keep-swap p q l)) (λ u. simp (t, u, keep-swap p q l)))
       (λ t. by-test (q e) (λ u. simp (t, u, keep-swap p q l)) (λ u. simp (t, u, keep-swap p q l)))
+
+  pub keep-reverse : (p : E → Bool) (l : List E) → keep p (reverse l) ≡ reverse (keep p l)
+  keep-reverse p [] = refl
+  keep-reverse p (e ∷ l) =
+      by-test (p e)
+      (λ t. rw (reverse-cons, keep-append, keep-reverse p l, t, reverse-cons))
+      (λ t. rw (reverse-cons, keep-append, keep-reverse p l, t, append-nil))
 
   length-keep-take : (p : E → Bool) (l : List E) (i : ℕ) → length (keep p (take i l)) ≤ length (keep p l)
   length-keep-take p l i =
@@ -133,6 +144,19 @@ module _ {E : Type 0} where
       first-keep-out i (e ∷ l) = by-test (q e)
           (λ t. by-test (p e) (λ u. clash t (i e u)) (λ u. simp (t, u) (first-keep-out i l)))
           (λ t. simp t (first-keep-out i l))
+
+  -- ---- a list from its end: the first n from the last on, and those from a place on, from the last on
+  pub last-first : (l : List E) (n : ℕ) (d : E) → 0 < n → n ≤ length l → reverse (take n l) ≡ getD l (n - 1) d ∷ reverse (take (n - 1) l)
+  last-first l zero d z h = absurd (omega arith)
+  last-first l (suc k) d z h =
+      let m : suc k - 1 ≡ k = omega arith in
+      rw (m, take-suc l k d (omega arith)) (reverse-append (take k l) (getD l k d ∷ []))
+
+  pub back-more : (l : List E) (n : ℕ) (d : E) → 0 < n → n ≤ length l → reverse (drop (n - 1) l) ≡ reverse (drop n l) ++ (getD l (n - 1) d ∷ [])
+  back-more l zero d z h = absurd (omega arith)
+  back-more l (suc k) d z h =
+      let m : suc k - 1 ≡ k = omega arith in
+      rw (m, drop-cons l k d (omega arith)) (reverse-cons (getD l k d) (drop (suc k) l))
 
   -- ---- a list at the front of an array
   module _ (n : ℕ) (z : E) where

@@ -1,0 +1,29 @@
+-- An event that is no system shortcut resolves nothing: by cases, with the one kind that is left out by its tag.
+use Prim.Native.Nat.{ℕ}
+use mathlib.Core.Path.{_≡_, refl}
+use mathlib.Core.List.{List, [], _∷_}
+use types.Run.{OneOf, miss}
+use denote.Enum.Declared as Declared
+use Rattle.handles.specs.declared.handle.GenerationalHandle.{GenerationalHandle}
+use Rattle.composition_state.specs.declared.registry.CompositionRegistry.{CompositionRegistry}
+use Rattle.composition_state.specs.declared.trace.ArbitrationEvent.{ArbitrationEvent}
+use Rattle.composition_state.specs.declared.trace.ArbitrationEvent.the-variants.{Pointer, PointerStack, PointerFor, PointerStackFor, Keyboard, KeyboardFor, Gamepad, GamepadFor, Text, Shortcut, SystemShortcut}
+use Rattle.composition_state.proofs.trace.ArbitrationEvent as Event
+use Rattle.composition_arbitration.specs.Arbitration.{unresolved, resolution}
+
+abbrev otherKinds : List ℕ
+otherKinds = 0 ∷ 1 ∷ 2 ∷ 3 ∷ 4 ∷ 5 ∷ 6 ∷ 7 ∷ 8 ∷ 9 ∷ []
+
+pub no-shortcut : (r : CompositionRegistry) (view : GenerationalHandle) (e : ArbitrationEvent) → OneOf otherKinds (Declared.tagOf Event.the-type e) → unresolved ≡ resolution r view e
+unfolding resolution
+no-shortcut r view (Pointer m) h = refl
+no-shortcut r view PointerStack h = refl
+no-shortcut r view (PointerFor p m) h = refl
+no-shortcut r view (PointerStackFor p) h = refl
+no-shortcut r view Keyboard h = refl
+no-shortcut r view (KeyboardFor m) h = refl
+no-shortcut r view Gamepad h = refl
+no-shortcut r view (GamepadFor m) h = refl
+no-shortcut r view Text h = refl
+no-shortcut r view Shortcut h = refl
+no-shortcut r view (SystemShortcut m) h = absurd (miss otherKinds 10 tt h)

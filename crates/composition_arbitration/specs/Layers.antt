@@ -1,0 +1,85 @@
+-- Document 01, Layers: a view's layers, from lowest to highest, are walked from the top, and a consumer ends the walk.
+use mathlib.Core.Bool.{Bool, true, false, cond}
+use mathlib.Core.List.{List, [], _∷_, map, reverse}
+use Rattle.lists.specs.Lists.{keep}
+use Rattle.lists.specs.Tables.{packed}
+use Rattle.handles.specs.declared.handle.GenerationalHandle.{GenerationalHandle}
+use Rattle.handles.specs.declared.handle.OptionalHandle.{OptionalHandle}
+use Rattle.handles.specs.declared.handle.OptionalHandle.the-variants.{None, Some}
+use Rattle.composition_state.specs.declared.surface.SurfaceInputPolicy.{SurfaceInputPolicy}
+use Rattle.composition_state.specs.declared.surface.SurfaceInputPolicy.the-variants.{Observe, Passthrough, Interactive, Exclusive}
+use Rattle.composition_state.specs.declared.surface.SurfaceTable.{SurfaceTable}
+use Rattle.composition_state.specs.declared.trace.InputDelivery.{InputDelivery}
+use Rattle.composition_state.specs.Surfaces.{descriptorOf}
+use Rattle.composition_state.specs.Traces.{deliveries}
+use Rattle.composition_arbitration.specs.declared.targets.Choice.{Choice}
+use Rattle.composition_arbitration.specs.declared.walk.Verdict.{Verdict}
+use Rattle.composition_arbitration.specs.declared.walk.Verdict.the-variants.{Observing, NotTargeted, PassedThrough, Took, Blocks}
+use Rattle.composition_arbitration.specs.declared.walk.Walked.{Walked}
+use Rattle.composition_arbitration.specs.Targets.{isTargeted}
+
+-- "Observe: always delivered, observed. Passthrough: delivered if targeted. Interactive: if targeted, delivered and consumes. Exclusive: always
+-- delivered and consumes."
+abbrev pub verdict : SurfaceInputPolicy → Bool → Verdict
+verdict Observe t = Observing
+verdict Passthrough true = PassedThrough
+verdict Passthrough false = NotTargeted
+verdict Interactive true = Took
+verdict Interactive false = NotTargeted
+verdict Exclusive t = Blocks
+
+abbrev pub delivers : Verdict → Bool
+delivers Observing = true
+delivers NotTargeted = false
+delivers PassedThrough = true
+delivers Took = true
+delivers Blocks = true
+
+abbrev pub consumes : Verdict → Bool
+consumes Observing = false
+consumes NotTargeted = false
+consumes PassedThrough = false
+consumes Took = true
+consumes Blocks = true
+
+abbrev pub observes : Verdict → Bool
+observes Observing = true
+observes NotTargeted = false
+observes PassedThrough = false
+observes Took = false
+observes Blocks = false
+
+-- the verdict of a layer: by its policy, and whether it is a target
+unfoldable pub verdictAt : SurfaceTable → Choice → List GenerationalHandle → GenerationalHandle → Verdict
+verdictAt surfaces choice hits h =
+    verdict (descriptorOf surfaces h .input) (isTargeted choice hits h (descriptorOf surfaces h .«accepts_text»))
+
+abbrev pub deliveryFrom : Verdict → GenerationalHandle → InputDelivery
+deliveryFrom v h = record { surface = h; observed = observes v }
+
+-- the delivery of one layer, if its verdict delivers
+abbrev pub delivered : Verdict → GenerationalHandle → List InputDelivery
+delivered v h = cond (delivers v) (deliveryFrom v h ∷ []) []
+
+module _ (at : GenerationalHandle → Verdict) where
+  -- the layers from the top on, up to the first that consumes, with it: "A consumer ends the walk."
+  unfoldable pub untilConsumed : List GenerationalHandle → List GenerationalHandle
+  untilConsumed [] = []
+  untilConsumed (h ∷ l) = h ∷ cond (consumes (at h)) [] (untilConsumed l)
+
+  -- the layers that are walked, of those from lowest to highest
+  abbrev pub walked : List GenerationalHandle → List GenerationalHandle
+  walked l = untilConsumed (reverse l)
+
+  -- what those walked are delivered
+  abbrev pub deliveriesOf : List GenerationalHandle → List InputDelivery
+  deliveriesOf w = map (λ h. deliveryFrom (at h) h) (keep (λ h. delivers (at h)) w)
+
+  -- the last walked, if it consumes
+  unfoldable pub consumerOf : List GenerationalHandle → OptionalHandle
+  consumerOf [] = None
+  consumerOf (h ∷ []) = cond (consumes (at h)) (Some h) None
+  consumerOf (h ∷ g ∷ l) = consumerOf (g ∷ l)
+
+  unfoldable pub walkOf : List GenerationalHandle → Walked
+  walkOf l = record { deliveries = packed deliveries (deliveriesOf (walked l)); «consumed_by» = consumerOf (walked l) }

@@ -1,0 +1,5 @@
+pub mod Targets
+pub mod Layers
+pub mod Trace
+pub mod Arbitration
+pub mod Claims

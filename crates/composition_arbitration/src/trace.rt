@@ -1,0 +1,68 @@
+// The trace of the last arbitrations.
+ghost use mathlib.Core.Path.{_≡_};
+ghost use Prim.Native.Nat.{_-_, _<_};
+ghost use lib.ListN.{length};
+ghost use Rattle.lists.specs.Tables.{entriesOf, pushed};
+ghost use Rattle.composition_state.specs.Traces.{traces as stateTraces};
+ghost use Rattle.composition_arbitration.specs.Trace.{keptBefore, traced};
+use composition_state::trace::CompositionTrace;
+use composition_state::trace::Traces;
+
+fn count(traces: Traces) -> usize
+    ensures { λ r. ⌜ r ≡ length (entriesOf stateTraces traces) ⌝ }
+{
+    let n = traces.len;
+    if n < 32 {
+        return n;
+    }
+    32
+}
+
+fn push(traces: Traces, trace: CompositionTrace) -> Traces
+    requires { ⌜ traces .len < 32 ⌝ }
+    ensures { λ r. ⌜ r ≡ pushed stateTraces traces trace ⌝ }
+{
+    let at = traces.len;
+    let mut next = traces;
+    next.items[at] = trace;
+    next.len = at + 1;
+    next
+}
+
+// How many of the older traces stay beside a new one.
+fn kept_before(limit: u64) -> usize
+    ensures { λ r. ⌜ r ≡ keptBefore limit ⌝ }
+{
+    if limit == 0 {
+        return 0;
+    }
+    if limit < 32 {
+        return (limit - 1) as usize;
+    }
+    31
+}
+
+fn first_kept(n: usize, kept: usize) -> usize
+    ensures { λ r. ⌜ r ≡ n - kept ⌝ }
+{
+    if n < kept {
+        return 0;
+    }
+    n - kept
+}
+
+// The traces with a new one at the end; the oldest drop out where the limit is passed.
+pub fn push_trace(traces: Traces, limit: u64, trace: CompositionTrace) -> Traces
+    ensures { λ r. ⌜ r ≡ traced limit traces trace ⌝ }
+{
+    let n = count(traces);
+    let from = first_kept(n, kept_before(limit));
+    let mut next = Traces::new();
+    let mut i = from;
+    while i < n {
+        let old = traces.items[i];
+        next = push(next, old);
+        i += 1;
+    }
+    push(next, trace)
+}

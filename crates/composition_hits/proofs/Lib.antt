@@ -1,0 +1,4 @@
+pub mod BufferLaws
+pub mod HitLaws
+pub mod TestLaws
+pub mod ClaimLaws

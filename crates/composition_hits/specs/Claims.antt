@@ -1,0 +1,28 @@
+-- What holds of every hit test. It answers no registry, so it alters none.
+use Prim.Native.Nat.{ℕ, _≤_}
+use mathlib.Core.Path.{_≡_}
+use mathlib.Core.Bool.{Bool, true}
+use mathlib.Core.List.{List, [], _∷_, _++_, reverse}
+use lib.ListN.{length, drop}
+use Rattle.lists.specs.Lists.{keep}
+use Rattle.lists.specs.Tables.{entriesOf}
+use Rattle.geometry.specs.declared.transform.Point.{Point}
+use Rattle.handles.specs.declared.handle.GenerationalHandle.{GenerationalHandle}
+use Rattle.composition_state.specs.declared.error.CompositionError.{CompositionError}
+use Rattle.composition_state.specs.declared.error.Outcome.the-variants.{Accepted, Refused}
+use Rattle.composition_state.specs.declared.registry.CompositionRegistry.{CompositionRegistry}
+use Rattle.composition_state.specs.Layers.{layers}
+use Rattle.composition_hits.specs.Buffer.{numbersOf}
+use Rattle.composition_hits.specs.HitTest.{isLayerHit, layersOf, viewHits, hitTestRefusal, hitNumbers, bufferAfter}
+
+pub record HitClaims : Type 0 where
+  -- the hits, read from the last on, are the layers that pass the panel test, in layer order
+  pub layer-order : (r : CompositionRegistry) (view : GenerationalHandle) (p : Point)
+      → reverse (viewHits r view p) ≡ keep (isLayerHit (r .surfaces) p) (entriesOf layers (layersOf (r .views) view))
+  -- a refused test leaves the buffer untouched
+  pub refused : (r : CompositionRegistry) (view : GenerationalHandle) (p : Point) (old : List ℕ) (e : CompositionError)
+      → hitTestRefusal r view (length old) ≡ Refused e → bufferAfter r view p old ≡ old
+  -- an accepted test leaves everything behind the front part untouched
+  pub accepted : (r : CompositionRegistry) (view : GenerationalHandle) (p : Point) (old : List ℕ)
+      → hitTestRefusal r view (length old) ≡ Accepted
+      → bufferAfter r view p old ≡ numbersOf (viewHits r view p) ++ drop (length (numbersOf (viewHits r view p))) old

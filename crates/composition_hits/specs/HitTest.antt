@@ -1,0 +1,61 @@
+-- Document 01, Hit test: the layers from the top that pass the panel test. Refused 42, 8/9, 41.
+use Prim.Native.Nat.{ℕ}
+use mathlib.Core.Bool.{Bool}
+use mathlib.Core.List.{List, [], reverse}
+use lib.ListN.{length}
+use lib.Dec.{ltb}
+use Rattle.lists.specs.Lists.{keep}
+use Rattle.lists.specs.Tables.{entriesOf}
+use Rattle.geometry.specs.Surface.{isHit}
+use Rattle.geometry.specs.declared.transform.Point.{Point}
+use Rattle.handles.specs.declared.handle.GenerationalHandle.{GenerationalHandle}
+use Rattle.composition_state.specs.declared.error.CompositionError.the-variants.{PortLimit}
+use Rattle.composition_state.specs.declared.error.Outcome.{Outcome}
+use Rattle.composition_state.specs.declared.error.Outcome.the-variants.{Accepted, Refused}
+use Rattle.composition_state.specs.declared.layers.Layers.{Layers}
+use Rattle.composition_state.specs.declared.registry.CompositionRegistry.{CompositionRegistry}
+use Rattle.composition_state.specs.declared.surface.SurfaceTable.{SurfaceTable}
+use Rattle.composition_state.specs.declared.view.ViewTable.{ViewTable}
+use Rattle.composition_state.specs.Errors.{thenRefusal, refusalIf}
+use Rattle.composition_state.specs.Damage.{damageRefusal}
+use Rattle.composition_state.specs.Layers.{layers}
+use Rattle.composition_state.specs.Surfaces.{descriptorOf}
+use Rattle.composition_state.specs.Views.{viewAt, viewRefusal}
+use Rattle.composition_hits.specs.declared.stack.HitTest.{HitTest}
+use Rattle.composition_hits.specs.Buffer.{numbersOf, written}
+
+-- a layer passes the panel test at a point
+unfoldable pub isLayerHit : SurfaceTable → Point → GenerationalHandle → Bool
+isLayerHit surfaces p h = isHit (descriptorOf surfaces h .geometry) (p .«x_milli») (p .«y_milli»)
+
+-- the layers from the top that pass it, of layers from the lowest on
+unfoldable pub hitsAmong : SurfaceTable → Point → List GenerationalHandle → List GenerationalHandle
+hitsAmong surfaces p l = keep (isLayerHit surfaces p) (reverse l)
+
+abbrev pub layersOf : ViewTable → GenerationalHandle → Layers
+layersOf views view = viewAt views view .surfaces
+
+-- the hits of a view, topmost first
+unfoldable pub viewHits : CompositionRegistry → GenerationalHandle → Point → List GenerationalHandle
+viewHits r view p = hitsAmong (r .surfaces) p (entriesOf layers (layersOf (r .views) view))
+
+-- 42, 8/9, 41 (a buffer shorter than 32 numbers)
+abbrev pub hitTestRefusal : CompositionRegistry → GenerationalHandle → ℕ → Outcome
+hitTestRefusal r view size =
+    thenRefusal (damageRefusal r) (thenRefusal (viewRefusal (r .views) view) (refusalIf (ltb size 32) PortLimit))
+
+-- a refused test finds nothing
+abbrev pub foundNumbers : Outcome → List GenerationalHandle → List ℕ
+foundNumbers Accepted l = numbersOf l
+foundNumbers (Refused e) l = []
+
+-- the filled front part of the buffer
+unfoldable pub hitNumbers : CompositionRegistry → GenerationalHandle → Point → ℕ → List ℕ
+hitNumbers r view p size = foundNumbers (hitTestRefusal r view size) (viewHits r view p)
+
+unfoldable pub hitTest : CompositionRegistry → GenerationalHandle → Point → ℕ → HitTest
+hitTest r view p size = record { outcome = hitTestRefusal r view size; numbers = length (hitNumbers r view p size) }
+
+-- the whole buffer: the numbers at its front, and the rest untouched
+unfoldable pub bufferAfter : CompositionRegistry → GenerationalHandle → Point → List ℕ → List ℕ
+bufferAfter r view p old = written old (hitNumbers r view p (length old))

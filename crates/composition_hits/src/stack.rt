@@ -1,0 +1,109 @@
+// The hit test of a view's layers.
+ghost use mathlib.Core.Path.{_≡_};
+ghost use Prim.Native.Nat.{_≤_};
+ghost use lib.ListN.{length};
+ghost use Rattle.lists.specs.Tables.{entriesOf};
+ghost use Rattle.composition_state.specs.Errors.{numberOf};
+ghost use Rattle.composition_state.specs.Layers.{layers as stateLayers};
+ghost use Rattle.composition_hits.specs.Buffer.{written, numbersOf};
+ghost use Rattle.composition_hits.specs.HitTest.{isLayerHit, hitsAmong, layersOf, hitTestRefusal, foundNumbers, hitNumbers, hitTest, bufferAfter};
+use composition_state::error::CompositionError;
+use composition_state::error::Outcome;
+use composition_state::error::number;
+use composition_state::layers::Layers;
+use composition_state::registry::CompositionRegistry;
+use composition_state::surface::SurfaceTable;
+use composition_state::view::ViewTable;
+use geometry::transform::Point;
+use handles::handle::GenerationalHandle;
+
+// The refusal, and how many numbers stand at the front of the buffer.
+pub struct HitTest {
+    pub outcome: Outcome,
+    pub numbers: usize,
+}
+
+fn is_layer_hit(surfaces: SurfaceTable, point: Point, surface: GenerationalHandle) -> bool
+    ensures { λ r. ⌜ r ≡ isLayerHit surfaces point surface ⌝ }
+{
+    let descriptor = surfaces.descriptor(surface);
+    let geometry = descriptor.geometry;
+    geometry.is_hit(point.x_milli, point.y_milli)
+}
+
+// The hits' numbers at the front of the buffer. Answers how many numbers.
+fn fill(surfaces: SurfaceTable, layers: Layers, point: Point, buffer: &mut [u64]) -> usize
+    requires { ⌜ 32 ≤ length (now buffer) ⌝ }
+    ensures place { λ r. ⌜ r ≡ length (numbersOf (hitsAmong surfaces point (entriesOf stateLayers layers))) ⌝ }
+    ensures filled { λ r. ⌜ now (buffer .exit) ≡ written (now (buffer .entry)) (numbersOf (hitsAmong surfaces point (entriesOf stateLayers layers))) ⌝ }
+{
+    let mut left = layers.count();
+    let mut at: usize = 0;
+    while 0 < left {
+        left -= 1;
+        let surface = layers.items[left];
+        let is_hit = is_layer_hit(surfaces, point, surface);
+        at = crate::buffer::put_if(buffer, at, surface, is_hit);
+    }
+    at
+}
+
+fn layers_of(views: ViewTable, view: GenerationalHandle) -> Layers
+    ensures { λ r. ⌜ r ≡ layersOf views view ⌝ }
+{
+    let record = views.record(view);
+    record.surfaces
+}
+
+fn hit_test_refusal(registry: CompositionRegistry, view: GenerationalHandle, size: usize) -> Outcome
+    ensures { λ r. ⌜ r ≡ hitTestRefusal registry view size ⌝ }
+{
+    let views = registry.views;
+    let short = composition_state::error::refuse_if(size < 32, CompositionError::PortLimit);
+    registry.damage().then(views.refusal(view).then(short))
+}
+
+// The whole promise: the refusal, how many numbers stand at the front, and the whole buffer afterwards.
+pub fn hit_test_into(
+    registry: CompositionRegistry,
+    view: GenerationalHandle,
+    point: Point,
+    buffer: &mut [u64],
+) -> HitTest
+    ensures answer { λ r. ⌜ r ≡ hitTest registry view point (length (now (buffer .entry))) ⌝ }
+    ensures written { λ r. ⌜ now (buffer .exit) ≡ bufferAfter registry view point (now (buffer .entry)) ⌝ }
+{
+    let refusal = hit_test_refusal(registry, view, buffer.len());
+    if refusal.is_accepted() {
+        let surfaces = registry.surfaces;
+        let views = registry.views;
+        let layers = layers_of(views, view);
+        let numbers = fill(surfaces, layers, point, buffer);
+        return HitTest {
+            outcome: refusal,
+            numbers,
+        };
+    }
+    HitTest {
+        outcome: refusal,
+        numbers: 0,
+    }
+}
+
+// The filled front part of the buffer, with the refusal's number beside it. The registry is only read.
+pub fn hit_test_stack<'a>(
+    registry: CompositionRegistry,
+    view: GenerationalHandle,
+    point: Point,
+    buffer: &'a mut [u64],
+    refusal: &mut u64,
+) -> &'a mut [u64]
+    ensures number { λ r. ⌜ now (refusal .exit) ≡ numberOf (hitTestRefusal registry view (length (now (buffer .entry)))) ⌝ }
+    ensures front { λ r. ⌜ now r ≡ hitNumbers registry view point (length (now (buffer .entry))) ⌝ }
+{
+    let tested = hit_test_into(registry, view, point, buffer);
+    let outcome = tested.outcome;
+    *refusal = number(outcome);
+    let n = tested.numbers;
+    &mut buffer[..n]
+}
