@@ -1,0 +1,6 @@
+pub mod RegisterLaws
+pub mod GreatestLaws
+pub mod CandidateLaws
+pub mod LivePanelLaws
+pub mod BitLaws
+pub mod ClaimLaws

@@ -1,0 +1,15 @@
+-- `Registrations::count` meets its contract: the stored count, cut at the number of places.
+use Rattle.lists.proofs.TableLaws.{count-below, count-above}
+use Rattle.composition_shortcuts.specs.Register.{registrations}
+use Rattle.composition_shortcuts.proofs.RegisterLaws.{long}
+use Rattle.composition_shortcuts.proofs.register.Registrations.count.Statement.{statement}
+use Rattle.composition_shortcuts.proofs.register.Registrations.count.Tie as tie
+
+returns : tie.Need-returns
+returns c = count-below registrations (c .before .args .self) (long (c .before .args .self) (c .before .good .0)) (c .if1 .taken)
+
+returns-2 : tie.Need-returns-2
+returns-2 c = count-above registrations (c .before .args .self) (long (c .before .args .self) (c .before .good .0)) (c .if1 .left)
+
+pub count-spec : {M : Type 1} → statement M
+count-spec = tie.close (tie.spec returns returns-2)

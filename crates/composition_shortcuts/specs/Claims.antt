@@ -1,0 +1,73 @@
+-- What holds of these calls beyond their equations.
+use Prim.Native.Nat.{ℕ, _<_, _/_, _%_, _^_}
+use mathlib.Core.Path.{_≡_}
+use mathlib.Core.Bool.{true, false}
+use mathlib.Core.List.{[], _∷_, List·Memᴰ}
+use Rattle.lists.specs.Tables.{entriesOf, packed}
+use Rattle.handles.specs.declared.arena.SlotStatus.the-variants.{Live}
+use Rattle.handles.specs.declared.handle.GenerationalHandle.{GenerationalHandle}
+use Rattle.handles.specs.declared.handle.OptionalHandle.the-variants.{None, Some}
+use Rattle.composition_state.specs.declared.error.Outcome.the-variants.{Accepted}
+use Rattle.composition_state.specs.declared.registry.CompositionRegistry.{CompositionRegistry}
+use Rattle.composition_state.specs.declared.shortcut.SlotShortcut.{SlotShortcut}
+use Rattle.composition_state.specs.declared.shortcut.SurfaceShortcutRegistration.{SurfaceShortcutRegistration}
+use Rattle.composition_state.specs.declared.surface.SurfaceInputPolicy.the-variants.{Observe}
+use Rattle.composition_state.specs.Damage.{isSound}
+use Rattle.composition_state.specs.Errors.{numberOf}
+use Rattle.composition_state.specs.Settles.{Settles}
+use Rattle.composition_state.specs.Shortcuts.{shortcuts}
+use Rattle.composition_state.specs.Surfaces.{surfaceStatus, descriptorOf}
+use Rattle.composition_shortcuts.specs.declared.register.Registrations.{Registrations}
+use Rattle.composition_shortcuts.specs.declared.resolve.Candidate.{Candidate}
+use Rattle.composition_shortcuts.specs.Register.{registrations, registerSurfaceSystemShortcutSet}
+use Rattle.composition_shortcuts.specs.Resolve.{sharesBit, ownerOf, counts, candidateOf, isLess, resolveSystemShortcut}
+
+-- a registration of the table that counts
+pub record Counts (r : CompositionRegistry) (view : GenerationalHandle) (mask : ℕ) (s : SlotShortcut) : Type 0 where
+  pub stored : List·Memᴰ s (entriesOf shortcuts (r .shortcuts))
+  pub counted : counts (r .views) (r .surfaces) view mask s ≡ true
+
+-- the panel's registration counts, and nothing that counts is greater
+pub record Wins (r : CompositionRegistry) (view : GenerationalHandle) (mask : ℕ) (h : GenerationalHandle) : Type 0 where
+  pub registration : SlotShortcut
+  pub owned : ownerOf (r .surfaces .arena) registration ≡ h
+  pub counting : Counts r view mask registration
+  pub unbeaten : (s : SlotShortcut) → Counts r view mask s → isLess (candidateOf (r .surfaces) view registration) (candidateOf (r .surfaces) view s) ≡ false
+
+-- bit k of the 64 stands in both masks
+pub record Shared (a b k : ℕ) : Type 0 where
+  pub below : k < 64
+  pub left : a / 2 ^ k % 2 ≡ 1
+  pub right : b / 2 ^ k % 2 ≡ 1
+
+-- a sound registry with a live Observe panel
+pub record Observing (r : CompositionRegistry) (h : GenerationalHandle) : Type 0 where
+  pub sound : isSound r ≡ true
+  pub live : surfaceStatus (r .surfaces) h ≡ Live
+  pub observe : descriptorOf (r .surfaces) h .input ≡ Observe
+
+-- document 01's number of a set call with the registry's own revision
+abbrev pub setNumber : CompositionRegistry → GenerationalHandle → Registrations → ℕ
+setNumber r h t = numberOf (registerSurfaceSystemShortcutSet r h t (r .revision) .outcome)
+
+pub record ShortcutClaims : Type 0 where
+  -- the greatest of those that count wins
+  pub winner-wins : (r : CompositionRegistry) (view : GenerationalHandle) (mask : ℕ) (h : GenerationalHandle) → resolveSystemShortcut r view mask .surface ≡ Some h → Wins r view mask h
+  -- document 01: none is answered exactly if none counts
+  pub none-counts : (r : CompositionRegistry) (view : GenerationalHandle) (mask : ℕ) → resolveSystemShortcut r view mask .outcome ≡ Accepted → resolveSystemShortcut r view mask .surface ≡ None
+      → (s : SlotShortcut) → Counts r view mask s → ⊥
+  pub none-wins : (r : CompositionRegistry) (view : GenerationalHandle) (mask : ℕ) → ((s : SlotShortcut) → Counts r view mask s → ⊥) → resolveSystemShortcut r view mask .surface ≡ None
+  -- there is one winner: candidates of which neither is less are of one panel
+  pub one-winner : (a b : Candidate) → isLess a b ≡ false → isLess b a ≡ false → a .surface ≡ b .surface
+  -- a 64-bit and is not 0 exactly if some bit stands in both
+  pub bit-shared : (a b : ℕ) → a < 2 ^ 64 → sharesBit a b ≡ true → (k : ℕ) × Shared a b k
+  pub shared-bit : (a b k : ℕ) → Shared a b k → sharesBit a b ≡ true
+  -- a refusal of the set call other than 21 changes nothing, and an accepted one raises the revision by exactly 1
+  pub set-settles : (r : CompositionRegistry) (h : GenerationalHandle) (t : Registrations) (n : ℕ)
+      → Settles r (registerSurfaceSystemShortcutSet r h t n .outcome) (registerSurfaceSystemShortcutSet r h t n .registry)
+  -- an empty list is never refused 18, whatever the policy
+  pub empty-fits : (r : CompositionRegistry) (h : GenerationalHandle) (t : Registrations) (n : ℕ) → t .len ≡ 0 → numberOf (registerSurfaceSystemShortcutSet r h t n .outcome) ≡ 18 → ⊥
+  -- document 01, Counter table: 65 registrations on an Observe panel: 3; one there: 18; none: accepted
+  pub observe-many : (r : CompositionRegistry) (h : GenerationalHandle) → Observing r h → (t : Registrations) → t .len ≡ 65 → setNumber r h t ≡ 3
+  pub observe-one : (r : CompositionRegistry) (h : GenerationalHandle) → Observing r h → (g : SurfaceShortcutRegistration) → setNumber r h (packed registrations (g ∷ [])) ≡ 18
+  pub observe-none : (r : CompositionRegistry) (h : GenerationalHandle) → Observing r h → (r .revision ≡ 18446744073709551615 → ⊥) → setNumber r h (packed registrations []) ≡ 0

@@ -1,0 +1,4 @@
+pub mod Register
+pub mod Greatest
+pub mod Resolve
+pub mod Claims
