@@ -1,4 +1,7 @@
 pub mod Register
 pub mod Greatest
+pub mod Scope
+pub mod Candidates
+pub mod OwnView
 pub mod Resolve
 pub mod Claims

@@ -33,7 +33,7 @@ pub enum OptionalRegistration {
 }
 
 impl Registrations {
-    pub fn new() -> Self
+    fn new() -> Self
         ensures { λ r. ⌜ r ≡ packed given [] ⌝ }
     {
         let blank = SurfaceShortcutRegistration {
@@ -48,7 +48,7 @@ impl Registrations {
     }
 
     // The list of one registration.
-    pub fn of(registration: SurfaceShortcutRegistration) -> Self
+    fn of(registration: SurfaceShortcutRegistration) -> Self
         ensures { λ r. ⌜ r ≡ packed given (registration ∷ []) ⌝ }
     {
         let mut one = Registrations::new();
@@ -58,7 +58,7 @@ impl Registrations {
     }
 
     // How many registrations the list has: all places, where its count is past them.
-    pub fn count(self) -> usize
+    fn count(self) -> usize
         ensures { λ r. ⌜ r ≡ length (entriesOf given self) ⌝ }
     {
         let n = self.len;
