@@ -1,3 +1,4 @@
+<<<<<<< HEAD
 -- The claims hold: the winner by the laws of the greatest, the set call by what `settled` leaves and by the numbers of its checks.
 use Prim.Native.Nat.{ℕ, _≤_}
 use mathlib.Core.Path.{_≡_, refl, sym, ap, _∙_}
@@ -228,6 +229,18 @@ module _ (r : CompositionRegistry) (h : GenerationalHandle) (o : Observing r h) 
   none-is : (r .revision ≡ 18446744073709551615 → ⊥) → setNumber r h (packed registrations []) ≡ 0
   unfolding advanced
   none-is n = number-is (packed registrations []) Accepted none-left ∙ rw (ne-eqb _ _ n)
+=======
+-- The claims about these calls, each by the laws of its subject.
+use mathlib.Core.Path.{refl}
+use Rattle.composition_state.specs.Registry.{withShortcuts}
+use Rattle.composition_state.proofs.SettleLaws.{settles}
+use Rattle.composition_shortcuts.specs.Register.{replaced, registerRefusal, registerSurfaceSystemShortcutSet}
+use Rattle.composition_shortcuts.specs.Resolve.{winner, resolveSystemShortcut}
+use Rattle.composition_shortcuts.specs.Claims.{ShortcutClaims}
+use Rattle.composition_shortcuts.proofs.BitLaws.{bit-shared, shared-bit}
+use Rattle.composition_shortcuts.proofs.WinnerLaws.{resolved-some, resolved-none, none-resolved, own, wins, none-counts, none-wins, one-winner}
+use Rattle.composition_shortcuts.proofs.SetLaws.{empty-fits, stores, many-is, one-is, none-is}
+>>>>>>> shortcuts
 
 pub claims : ShortcutClaims
 unfolding resolveSystemShortcut registerSurfaceSystemShortcutSet
@@ -239,6 +252,10 @@ claims = record {
   bit-shared = bit-shared;
   shared-bit = shared-bit;
   set-settles = λ r h t n. settles (registerRefusal r h t n) r (withShortcuts (replaced (h .index) t (r .shortcuts)) r) refl;
+<<<<<<< HEAD
+=======
+  set-stores = stores;
+>>>>>>> shortcuts
   empty-fits = empty-fits;
   observe-many = many-is;
   observe-one = one-is;

@@ -1,3 +1,4 @@
+<<<<<<< HEAD
 -- Document 01, System shortcut: which registration counts, and which of those wins; and Arbitrate's 8/9 of a panel's own view.
 use Prim.Native.Nat.{ℕ}
 use mathlib.Core.Bool.{Bool, true, false, cond, not, _&&_}
@@ -90,11 +91,36 @@ rankOf c = (c .priority, (c .«scope_rank», (c .«same_view», (c .«z_order»,
 
 unfoldable pub isLess : Candidate → Candidate → Bool
 isLess a b = lexBoth ltZ (lexBoth ltb (lexBoth ltb (lexBoth ltZ handleLt))) (rankOf a) (rankOf b)
+=======
+-- Document 01, System shortcut: the panel that gets the event, or the refusal.
+use Prim.Native.Nat.{ℕ}
+use mathlib.Core.List.{List, map}
+use Rattle.lists.specs.Lists.{keep}
+use Rattle.lists.specs.Tables.{entriesOf}
+use Rattle.handles.specs.declared.handle.GenerationalHandle.{GenerationalHandle}
+use Rattle.handles.specs.declared.handle.OptionalHandle.{OptionalHandle}
+use Rattle.handles.specs.declared.handle.OptionalHandle.the-variants as O
+use Rattle.composition_state.specs.declared.error.Outcome.{Outcome}
+use Rattle.composition_state.specs.declared.error.Outcome.the-variants.{Accepted, Refused}
+use Rattle.composition_state.specs.declared.registry.CompositionRegistry.{CompositionRegistry}
+use Rattle.composition_state.specs.declared.shortcut.SlotShortcut.{SlotShortcut}
+use Rattle.composition_state.specs.declared.surface.SurfaceTable.{SurfaceTable}
+use Rattle.composition_state.specs.declared.view.ViewTable.{ViewTable}
+use Rattle.composition_state.specs.Shortcuts.{shortcuts}
+use Rattle.composition_shortcuts.specs.declared.candidate.Candidate.{Candidate}
+use Rattle.composition_shortcuts.specs.declared.candidate.OptionalCandidate.{OptionalCandidate}
+use Rattle.composition_shortcuts.specs.declared.candidate.OptionalCandidate.the-variants as C
+use Rattle.composition_shortcuts.specs.declared.resolve.Resolved.{Resolved}
+use Rattle.composition_shortcuts.specs.Scope.{counts}
+use Rattle.composition_shortcuts.specs.Candidates.{candidateOf, bestOf}
+use Rattle.composition_shortcuts.specs.OwnView.{ownViewRefusal}
+>>>>>>> shortcuts
 
 -- those that count, each as it is compared
 abbrev pub candidates : ViewTable → SurfaceTable → GenerationalHandle → ℕ → List SlotShortcut → List Candidate
 candidates views surfaces view mask l = map (candidateOf surfaces view) (keep (counts views surfaces view mask) l)
 
+<<<<<<< HEAD
 abbrev pub optional : Option Candidate → OptionalCandidate
 optional none = C.None
 optional (some c) = C.Some c
@@ -106,10 +132,18 @@ bestOf l = optional (greatest isLess l)
 abbrev pub bestAmong : ViewTable → SurfaceTable → GenerationalHandle → ℕ → List SlotShortcut → OptionalCandidate
 bestAmong views surfaces view mask l = bestOf (candidates views surfaces view mask l)
 
+=======
+-- the greatest of those that count
+abbrev pub bestAmong : ViewTable → SurfaceTable → GenerationalHandle → ℕ → List SlotShortcut → OptionalCandidate
+bestAmong views surfaces view mask l = bestOf (candidates views surfaces view mask l)
+
+-- "None is answered exactly if none counts"
+>>>>>>> shortcuts
 abbrev pub winnerOf : OptionalCandidate → OptionalHandle
 winnerOf C.None = O.None
 winnerOf (C.Some c) = O.Some (c .surface)
 
+<<<<<<< HEAD
 -- ---- Arbitrate: "8/9 (for a system shortcut: of the first live panel in slot order whose own view is not live and which has a Window registration sharing a class bit)"
 abbrev pub isWindow : ShortcutScope → Bool
 isWindow View = false
@@ -135,11 +169,17 @@ refusalOf views surfaces (some panel) = ownRefusal views surfaces panel
 unfoldable pub ownViewRefusal : Arena → SurfaceTable → ℕ → List SlotShortcut → Outcome
 ownViewRefusal views surfaces mask l = refusalOf views surfaces (first (isRefused views surfaces mask l) (liveHandles (surfaces .arena)))
 
+=======
+>>>>>>> shortcuts
 -- a refused call names no panel
 abbrev pub resolvedWith : Outcome → OptionalHandle → Resolved
 resolvedWith Accepted h = record { outcome = Accepted; surface = h }
 resolvedWith (Refused e) h = record { outcome = Refused e; surface = O.None }
 
+<<<<<<< HEAD
+=======
+-- "It alone gets the event": the panel of the greatest
+>>>>>>> shortcuts
 abbrev pub winner : CompositionRegistry → GenerationalHandle → ℕ → OptionalHandle
 winner r view mask = winnerOf (bestAmong (r .views) (r .surfaces) view mask (entriesOf shortcuts (r .shortcuts)))
 

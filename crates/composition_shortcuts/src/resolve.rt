@@ -1,5 +1,6 @@
 // Which panel a system shortcut goes to.
 ghost use mathlib.Core.Path.{_≡_};
+<<<<<<< HEAD
 ghost use mathlib.Core.Bool.{true, false, cond};
 ghost use mathlib.Core.List.{List, [], _∷_, _++_};
 ghost use lib.Signed.{ltZ};
@@ -22,6 +23,27 @@ use handles::handle::GenerationalHandle;
 use handles::handle::OptionalHandle;
 use handles::handle::handle_lt;
 use handles::handle::same_handle;
+=======
+ghost use mathlib.Core.List.{List, [], _∷_, _++_};
+ghost use Rattle.lists.specs.Tables.{entriesOf};
+ghost use Rattle.composition_state.specs.declared.shortcut.SlotShortcut.{SlotShortcut};
+ghost use Rattle.composition_state.specs.Shortcuts.{shortcuts as stored};
+ghost use Rattle.composition_shortcuts.specs.Resolve.{bestAmong, winnerOf, resolvedWith, resolveSystemShortcut};
+use crate::candidate::OptionalCandidate;
+use crate::candidate::candidate_of;
+use crate::candidate::greater_of;
+use crate::own_view::own_view_refusal;
+use crate::scope::is_counted;
+use crate::scope::shares_bit;
+use composition_state::error::Outcome;
+use composition_state::registry::CompositionRegistry;
+use composition_state::shortcut::Shortcuts;
+use composition_state::shortcut::SlotShortcut;
+use composition_state::surface::SurfaceTable;
+use composition_state::view::ViewTable;
+use handles::handle::GenerationalHandle;
+use handles::handle::OptionalHandle;
+>>>>>>> shortcuts
 
 // The answer: the panel that the event goes to stands if it is accepted.
 pub struct Resolved {
@@ -29,6 +51,7 @@ pub struct Resolved {
     pub surface: OptionalHandle,
 }
 
+<<<<<<< HEAD
 // A registration that counts, as it is compared.
 pub struct Candidate {
     pub priority: i16,
@@ -227,6 +250,8 @@ fn greater_of(best: OptionalCandidate, candidate: Candidate) -> OptionalCandidat
     }
 }
 
+=======
+>>>>>>> shortcuts
 // The greatest that counts of some registrations, with one registration more.
 fn consider(
     best: OptionalCandidate,
@@ -244,6 +269,10 @@ fn consider(
     best
 }
 
+<<<<<<< HEAD
+=======
+// Most registrations share no class bit: the tables are not passed for them.
+>>>>>>> shortcuts
 fn best_among(
     views: ViewTable,
     surfaces: SurfaceTable,
@@ -258,7 +287,14 @@ fn best_among(
     let mut i = 0;
     while i < n {
         let entry = shortcuts.entries[i];
+<<<<<<< HEAD
         best = consider(best, views, surfaces, view, class_mask, entry);
+=======
+        let registration = entry.registration;
+        if shares_bit(registration.class_mask, class_mask) {
+            best = consider(best, views, surfaces, view, class_mask, entry);
+        }
+>>>>>>> shortcuts
         i += 1;
     }
     best
@@ -276,6 +312,7 @@ fn winner_of(best: OptionalCandidate) -> OptionalHandle
     }
 }
 
+<<<<<<< HEAD
 fn is_window(scope: ShortcutScope) -> bool
     ensures { λ r. ⌜ r ≡ isWindow scope ⌝ }
 {
@@ -363,6 +400,8 @@ fn own_view_refusal(
     Outcome::Accepted
 }
 
+=======
+>>>>>>> shortcuts
 fn resolved_with(outcome: Outcome, surface: OptionalHandle) -> Resolved
     ensures { λ r. ⌜ r ≡ resolvedWith outcome surface ⌝ }
 {
@@ -378,7 +417,11 @@ fn resolved_with(outcome: Outcome, surface: OptionalHandle) -> Resolved
     }
 }
 
+<<<<<<< HEAD
 // The panel whose registration wins. No registry is refused 42 here: the caller has tested it.
+=======
+// The panel whose registration wins. Every registry is answered: the damage test and that of the view are the caller's.
+>>>>>>> shortcuts
 pub fn resolve_system_shortcut(
     registry: CompositionRegistry,
     view: GenerationalHandle,
