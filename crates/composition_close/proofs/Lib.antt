@@ -1,0 +1,4 @@
+pub mod TopLaws
+pub mod ReportLaws
+pub mod ShutdownLaws
+pub mod ClaimLaws

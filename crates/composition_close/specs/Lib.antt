@@ -1,0 +1,5 @@
+pub mod Reports
+pub mod Detach
+pub mod Close
+pub mod Shutdown
+pub mod Claims
