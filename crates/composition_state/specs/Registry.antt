@@ -11,6 +11,7 @@ use Rattle.composition_state.specs.declared.error.Outcome.the-variants.{
 use Rattle.composition_state.specs.declared.view.ViewTable.{ViewTable}
 use Rattle.composition_state.specs.declared.surface.SurfaceTable.{SurfaceTable}
 use Rattle.composition_state.specs.declared.shortcut.Shortcuts.{Shortcuts}
+use Rattle.composition_state.specs.declared.trace.Traces.{Traces}
 use Rattle.composition_state.specs.declared.registry.CompositionRegistry.{CompositionRegistry}
 use Rattle.composition_state.specs.declared.registry.Changed.{Changed}
 use Rattle.composition_state.specs.Errors.{statusRefusal, refusalIf}
@@ -30,6 +31,9 @@ withSurfaces s r = record { session = r .session; «session_epoch» = r .«sessi
 
 abbrev pub withShortcuts : Shortcuts → CompositionRegistry → CompositionRegistry
 withShortcuts k r = record { session = r .session; «session_epoch» = r .«session_epoch»; limits = r .limits; «first_generation» = r .«first_generation»; revision = r .revision; windows = r .windows; views = r .views; surfaces = r .surfaces; shortcuts = k; traces = r .traces }
+
+abbrev pub withTraces : Traces → CompositionRegistry → CompositionRegistry
+withTraces t r = record { session = r .session; «session_epoch» = r .«session_epoch»; limits = r .limits; «first_generation» = r .«first_generation»; revision = r .revision; windows = r .windows; views = r .views; surfaces = r .surfaces; shortcuts = r .shortcuts; traces = t }
 
 -- document 01: 5/6
 abbrev pub windowRefusal : Arena → GenerationalHandle → Outcome

@@ -1,6 +1,6 @@
 // The registry: one value that holds all windows, views and panels.
 ghost use mathlib.Core.Path.{_≡_};
-ghost use Rattle.composition_state.specs.Registry.{withWindows, withViews, withSurfaces, withShortcuts, windowRefusal, conflictRefusal, advanced, settled};
+ghost use Rattle.composition_state.specs.Registry.{withWindows, withViews, withSurfaces, withShortcuts, withTraces, windowRefusal, conflictRefusal, advanced, settled};
 use crate::error::CompositionError;
 use crate::error::Outcome;
 use crate::shortcut::Shortcuts;
@@ -84,6 +84,14 @@ impl CompositionRegistry {
     {
         let mut next = self;
         next.shortcuts = shortcuts;
+        next
+    }
+
+    pub fn with_traces(self, traces: Traces) -> Self
+        ensures { λ r. ⌜ r ≡ withTraces traces self ⌝ }
+    {
+        let mut next = self;
+        next.traces = traces;
         next
     }
 

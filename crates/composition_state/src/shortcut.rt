@@ -59,7 +59,7 @@ impl Shortcuts {
         256
     }
 
-    pub fn push(self, entry: SlotShortcut) -> Self
+    fn push(self, entry: SlotShortcut) -> Self
         requires { ⌜ self .len < 256 ⌝ }
         ensures { λ r. ⌜ r ≡ pushed shortcuts self entry ⌝ }
     {

@@ -1,15 +1,9 @@
 // The session of a script, and the answer to each of its lines.
-use crate::columns::put_end;
-use crate::columns::put_head;
-use crate::columns::put_no_call;
-use crate::columns::put_released;
-use crate::columns::put_rest;
-use crate::report::Report;
-use crate::report::plain;
-use crate::run::run_input;
-use crate::run::run_panel;
-use crate::run::run_read;
-use crate::run::start;
+use answer_line::columns::put_end;
+use answer_line::columns::put_head;
+use answer_line::columns::put_no_call;
+use answer_line::columns::put_released;
+use answer_line::columns::put_rest;
 use composition_input::captures::release_device_pointer_captures;
 use composition_state::error::Outcome;
 use composition_state::error::number;
@@ -22,6 +16,12 @@ use line_input::parse_line;
 use script_calls::calls::Call;
 use script_calls::calls::DeviceArguments;
 use script_calls::read::read_call;
+use script_run::report::Report;
+use script_run::report::plain;
+use script_run::run::run_input;
+use script_run::run::run_panel;
+use script_run::run::run_read;
+use script_run::run::start;
 
 // What goes from line to line: how much of a line has come, how many calls were answered,
 // whether digests are shown, and the registry.

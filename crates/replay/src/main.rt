@@ -1,8 +1,5 @@
 // Runs a script from standard input and writes one answer line for each call.
 mod answers;
-mod columns;
-mod report;
-mod run;
 
 use answers::Session;
 use answers::answer_line;

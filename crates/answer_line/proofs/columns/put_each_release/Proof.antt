@@ -3,8 +3,8 @@ use Prim.Native.Nat.{_-_}
 use mathlib.Core.Path.{_≡_, refl}
 use lib.ListN.{length}
 use borrow.Author.Needs.{needs}
-use Rattle.replay.proofs.columns.put_each_release.Statement.{statement}
-use Rattle.replay.proofs.columns.put_each_release.Tie as tie
+use Rattle.answer_line.proofs.columns.put_each_release.Statement.{statement}
+use Rattle.answer_line.proofs.columns.put_each_release.Tie as tie
 
 abbrev Inv-loop : tie.InvT-loop
 Inv-loop out₀ at items n next₀ i₀ out next i = length out ≡ length out₀

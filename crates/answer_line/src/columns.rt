@@ -1,5 +1,4 @@
 // The columns of an answer line, put into the buffer one after the other. Each answers the place after it.
-use crate::report::More;
 use answer::put::put_byte;
 use answer::put::put_bytes;
 use answer::put::put_pair;
@@ -24,6 +23,7 @@ use registry_dump::sink::sink_from;
 use registry_dump::sink::take_items;
 use registry_dump::views::take_captures;
 use registry_dump::views::take_view_layers;
+use script_run::report::More;
 
 // A number and the space behind it.
 fn put_cell(out: &mut [u8], at: usize, n: u64) -> usize {

@@ -1,0 +1,2 @@
+// An answer line, column by column.
+pub mod columns;
