@@ -13,8 +13,8 @@ use Rattle.script_calls.specs.declared.calls.InputCall.the-variants.{Set
 use Rattle.script_calls.specs.declared.calls.PanelCall.the-variants.{CreateWindow, CloseWindow, CreateView, UpdateViewMetrics, CloseView, AttachSurface, UpdateSurfaceGeometry, UpdateSurfaceInputPolicy}
 use Rattle.script_calls.specs.declared.calls.ReadCall.the-variants.{ViewWindow, ViewMetrics, ViewInputState, ViewPointerCaptures, SurfaceDescriptor, ViewLayers, Counts, State}
 use Rattle.script_calls.specs.declared.calls.Start.{Start}
-use Rattle.script_calls.specs.Groups.{u32At, u64At, handleAt, optionalAt, pointerAt, limitsAt}
-use Rattle.script_calls.specs.Shapes.{flagAt, policyAt, geometryAt, metricsAt, descriptorAt}
+use Rattle.script_fields.specs.Groups.{u32At, u64At, handleAt, optionalAt, pointerAt, limitsAt}
+use Rattle.script_fields.specs.Shapes.{flagAt, policyAt, geometryAt, metricsAt, descriptorAt}
 
 -- the call, if the line has as many fields as the verb asks for and they are in their ranges
 abbrev pub callIf : Call → ℕ → ℕ → Bool → Call

@@ -1,6 +1,6 @@
 // The call that a line is, by its verb.
 ghost use mathlib.Core.Path.{_≡_};
-ghost use Rattle.script_calls.specs.Groups.{handleAt};
+ghost use Rattle.script_fields.specs.Groups.{handleAt};
 ghost use Rattle.script_calls.specs.Calls.{ifEmpty, ifHandle, ifRevision, ifPointer, handleRevision, pointerRevision, callOf};
 use crate::arguments::call_if;
 use crate::arguments::handle_revision;
@@ -11,7 +11,7 @@ use crate::calls::InputCall;
 use crate::calls::PanelCall;
 use crate::calls::PointerArguments;
 use crate::calls::ReadCall;
-use crate::groups::handle_field;
+use script_fields::groups::handle_field;
 use handles::handle::GenerationalHandle;
 use script::line::Fields;
 use script::line::Line;
