@@ -19,6 +19,7 @@ use Rattle.script_fields.specs.declared.geometry_fields.GeometryField.{G
 use Rattle.script_fields.specs.declared.geometry_fields.InsetsField.{InsetsField}
 use Rattle.script_fields.specs.declared.geometry_fields.KindField.{KindField}
 use Rattle.script_fields.specs.declared.geometry_fields.MetricsField.{MetricsField}
+use Rattle.script_fields.specs.declared.geometry_fields.PointField.{PointField}
 use Rattle.script_fields.specs.declared.geometry_fields.PolicyField.{PolicyField}
 use Rattle.script_fields.specs.declared.geometry_fields.RectField.{RectField}
 use Rattle.script_fields.specs.declared.geometry_fields.TransformField.{TransformField}
@@ -59,6 +60,10 @@ transformAt fs i = record {
   transform = record { «m11_q16» = i32At fs i .value; «m12_q16» = i32At fs (i + 1) .value; «m21_q16» = i32At fs (i + 2) .value; «m22_q16» = i32At fs (i + 3) .value; «translate_x_milli» = i32At fs (i + 4) .value; «translate_y_milli» = i32At fs (i + 5) .value };
   fits = (i32At fs i .fits && (i32At fs (i + 1) .fits && (i32At fs (i + 2) .fits && i32At fs (i + 3) .fits))) && (i32At fs (i + 4) .fits && i32At fs (i + 5) .fits);
 }
+
+-- a point: x, y
+unfoldable pub pointAt : Fields → ℕ → PointField
+pointAt fs i = record { point = record { «x_milli» = i32At fs i .value; «y_milli» = i32At fs (i + 1) .value }; fits = i32At fs i .fits && i32At fs (i + 1) .fits }
 
 -- G: bounds, clip, matrix, opacity, hit testing
 unfoldable pub geometryAt : Fields → ℕ → GeometryField

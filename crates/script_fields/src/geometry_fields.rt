@@ -1,6 +1,6 @@
 // The fields of metrics, geometry and descriptors.
 ghost use mathlib.Core.Path.{_≡_};
-ghost use Rattle.script_fields.specs.Shapes.{i32At, flagAt, isZeroAt, areZeroAt, rectOf, rectAt, transformAt, geometryAt, policyOf, policyAt, kindOf, kindAt, visibilityOf, visibilityAt, insetsAt, metricsAt, descriptorAt};
+ghost use Rattle.script_fields.specs.Shapes.{i32At, flagAt, isZeroAt, areZeroAt, rectOf, rectAt, transformAt, pointAt, geometryAt, policyOf, policyAt, kindOf, kindAt, visibilityOf, visibilityAt, insetsAt, metricsAt, descriptorAt};
 use crate::groups::handle_field;
 use crate::groups::u32_field;
 use composition_state::surface::SurfaceDescriptor;
@@ -12,6 +12,7 @@ use geometry::metrics::ViewVisibility;
 use geometry::rect::OptionalRect;
 use geometry::rect::SurfaceRect;
 use geometry::surface::SurfaceGeometry;
+use geometry::transform::Point;
 use geometry::transform::SurfaceTransform;
 use lists::both;
 use script::fields::FieldFlag;
@@ -30,6 +31,11 @@ pub struct RectField {
 
 pub struct TransformField {
     pub transform: SurfaceTransform,
+    pub fits: bool,
+}
+
+pub struct PointField {
+    pub point: Point,
     pub fits: bool,
 }
 
@@ -132,7 +138,8 @@ fn rect_field(fields: Fields, i: u32) -> RectField
     optional_rect(present.value, rect, fits, are_zero(fields, i))
 }
 
-fn transform_field(fields: Fields, i: u32) -> TransformField
+// The six numbers of a matrix and its translation.
+pub fn transform_field(fields: Fields, i: u32) -> TransformField
     ensures { λ r. ⌜ r ≡ transformAt fields i ⌝ }
 {
     let at = i as usize;
@@ -154,6 +161,23 @@ fn transform_field(fields: Fields, i: u32) -> TransformField
     TransformField {
         transform,
         fits: both(matrix, both(x.fits, y.fits)),
+    }
+}
+
+// A point: x, y.
+pub fn point_field(fields: Fields, i: u32) -> PointField
+    ensures { λ r. ⌜ r ≡ pointAt fields i ⌝ }
+{
+    let at = i as usize;
+    let x = i32_field(fields, at);
+    let y = i32_field(fields, at + 1);
+    let point = Point {
+        x_milli: x.value,
+        y_milli: y.value,
+    };
+    PointField {
+        point,
+        fits: both(x.fits, y.fits),
     }
 }
 
