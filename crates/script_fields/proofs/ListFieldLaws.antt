@@ -25,9 +25,10 @@ use Rattle.composition_state.proofs.trace.Hits as H
 use Rattle.composition_state.proofs.trace.Hits.Laws as H′
 use Rattle.handles.specs.Handles.{handleOf}
 use Rattle.script.specs.declared.line.Fields.{Fields}
+use Rattle.script.proofs.RangeLaws.{unsigned-most}
 use Rattle.script_fields.specs.declared.list_fields.RegistrationsField.{RegistrationsField}
-use Rattle.script_fields.specs.Groups.{handleAt}
-use Rattle.script_fields.specs.ListFields.{below, placed, handlesFrom, hitsFrom, noRegistration, registrationAt, listFrom, registrationsFrom}
+use Rattle.script_fields.specs.Groups.{numberAt, handleAt}
+use Rattle.script_fields.specs.ListFields.{below, placed, handlesFrom, hitsFrom, hitsAt, noRegistration, registrationAt, listFrom, registrationsFrom, registrationsAt}
 use Rattle.script_fields.proofs.list_fields.RegistrationsField as R
 use Rattle.script_fields.proofs.list_fields.RegistrationsField.Laws as R′
 
@@ -84,3 +85,12 @@ pub registrations-next : (fs : Fields) (i k : ℕ) (t : RegistrationsField) → 
     → _≡_ {A = RegistrationsField} (record { items = set (t .items) k (registrationAt fs (i + 3 * k) .registration); len = k + 1; fits = t .fits && registrationAt fs (i + 3 * k) .fits }) (registrationsFrom fs i (k + 1))
 unfolding registrationsFrom listFrom
 registrations-next fs i k t e = rw (e, place-next 64 noRegistration (λ k. registrationAt fs (i + 3 * k) .registration) k, all-more (λ k. registrationAt fs (i + 3 * k) .fits) k)
+
+-- a list's count is in its range
+pub few-hits : (fs : Fields) (i : ℕ) → hitsAt fs i .hits .len ≤ 20
+unfolding hitsAt hitsFrom
+few-hits fs i = unsigned-most 20 (numberAt fs i)
+
+pub few-registrations : (fs : Fields) (i : ℕ) → registrationsAt fs i .len ≤ 70
+unfolding registrationsAt
+few-registrations fs i = unsigned-most 70 (numberAt fs i)

@@ -20,7 +20,12 @@ pub struct EventField {
     pub fits: bool,
 }
 
-fn event_of(kind: u64, pointer: CompositionPointerId, target: OptionalHandle, class_mask: u64) -> ArbitrationEvent
+fn event_of(
+    kind: u64,
+    pointer: CompositionPointerId,
+    target: OptionalHandle,
+    class_mask: u64,
+) -> ArbitrationEvent
     ensures { λ r. ⌜ r ≡ eventOf kind pointer target «class_mask» ⌝ }
 {
     if kind == 0 {

@@ -99,7 +99,10 @@ fn are_zero(fields: Fields, i: u32) -> bool
 {
     let at = i as usize;
     let sides = both(is_zero(fields, at + 3), is_zero(fields, at + 4));
-    both(is_zero(fields, at + 1), both(is_zero(fields, at + 2), sides))
+    both(
+        is_zero(fields, at + 1),
+        both(is_zero(fields, at + 2), sides),
+    )
 }
 
 fn optional_rect(is_present: bool, rect: SurfaceRect, fits: bool, zeros: bool) -> RectField

@@ -147,7 +147,11 @@ fn no_registrations() -> RegistrationsField
 }
 
 // The list with a registration at place k. Past the table's end a registration is only counted.
-fn push_registration(list: RegistrationsField, k: u16, read: RegistrationField) -> RegistrationsField
+fn push_registration(
+    list: RegistrationsField,
+    k: u16,
+    read: RegistrationField,
+) -> RegistrationsField
     ensures { λ r. ⌜ r ≡ record { items = set (list .items) k (read .registration); len = k + 1; fits = list .fits && read .fits } ⌝ }
 {
     let at = k as usize;

@@ -49,10 +49,10 @@ loop-less c = omega arith
 
 loop-again : tie.Need-loop-again Inv-loop μ-loop
 loop-again c = (
-      omega arith,
-      rw (c .before .push-hit .ensures, c .before .before .before .handle-field .ensures) (hits-next (c .before .before .before .before .before .before .before .args .fields) (c .before .before .before .before .before .before .before .args .i) (c .before .before .before .before .before .loop .k) (c .before .before .before .before .before .loop .hits) (c .before .before .before .before .before .loop .inv .1)),
-      rw (c .both .ensures, c .before .before .before .handle-field .ensures) (fits-next (c .before .before .before .before .before .before .before .args .fields) (c .before .before .before .before .before .before .before .args .i) (c .before .before .before .before .before .loop .k) (c .before .before .before .before .before .loop .fits) (c .before .before .before .before .before .loop .inv .2)),
-    )
+  omega arith,
+  rw (c .before .push-hit .ensures, c .before .before .before .handle-field .ensures) (hits-next (c .before .before .before .before .before .before .before .args .fields) (c .before .before .before .before .before .before .before .args .i) (c .before .before .before .before .before .loop .k) (c .before .before .before .before .before .loop .hits) (c .before .before .before .before .before .loop .inv .1)),
+  rw (c .both .ensures, c .before .before .before .handle-field .ensures) (fits-next (c .before .before .before .before .before .before .before .args .fields) (c .before .before .before .before .before .before .before .args .i) (c .before .before .before .before .before .loop .k) (c .before .before .before .before .before .loop .fits) (c .before .before .before .before .before .loop .inv .2)),
+)
 
 returns : tie.Need-returns Inv-loop μ-loop
 unfolding hitsFrom

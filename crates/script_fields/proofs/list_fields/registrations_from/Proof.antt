@@ -45,9 +45,9 @@ loop-less c = omega arith
 
 loop-again : tie.Need-loop-again Inv-loop μ-loop
 loop-again c = (
-      omega arith,
-      rw (c .push-registration .ensures, c .before .registration-field .ensures) (registrations-next (c .before .before .before .before .before .args .fields) (c .before .before .before .before .before .args .i) (c .before .before .before .loop .k) (c .before .before .before .loop .list) (c .before .before .before .loop .inv .1)),
-    )
+  omega arith,
+  rw (c .push-registration .ensures, c .before .registration-field .ensures) (registrations-next (c .before .before .before .before .before .args .fields) (c .before .before .before .before .before .args .i) (c .before .before .before .loop .k) (c .before .before .before .loop .list) (c .before .before .before .loop .inv .1)),
+)
 
 returns : tie.Need-returns Inv-loop μ-loop
 returns c =
