@@ -1,20 +1,26 @@
 -- The call that a verb and its fields make: each verb has a number of fields, and each field its range.
-use Prim.Native.Nat.{ℕ}
+use Prim.Native.Nat.{ℕ, _+_, _*_}
 use mathlib.Core.Bool.{Bool, true, cond, _&&_}
 use lib.Dec.{eqb}
+use Rattle.composition_state.specs.declared.trace.Hits.{Hits}
 use Rattle.script.specs.declared.line.Fields.{Fields}
 use Rattle.script.specs.declared.verb.Verb.{Verb}
 use Rattle.script.specs.declared.verb.Verb.the-variants as verb
 use Rattle.script_calls.specs.declared.arguments.HandleRevision.{HandleRevision}
 use Rattle.script_calls.specs.declared.arguments.PointerRevision.{PointerRevision}
 use Rattle.script_calls.specs.declared.calls.Call.{Call}
-use Rattle.script_calls.specs.declared.calls.Call.the-variants.{NoCall, Digest, New, ReleaseDevice, Panel, Input, Read}
+use Rattle.script_calls.specs.declared.calls.Call.the-variants.{NoCall, Digest, New, ReleaseDevice, Panel, Input, RegisterShortcuts, Arbitrate, Close, Hit, Read}
+use Rattle.script_calls.specs.declared.calls.CloseCall.the-variants.{CloseSurface, Shutdown}
+use Rattle.script_calls.specs.declared.calls.HitCall.the-variants.{HitTestStack, InversePoint}
 use Rattle.script_calls.specs.declared.calls.InputCall.the-variants.{SetFocus, CapturePointer, CapturePointerFor, ReleasePointer, ReleasePointerFor, BeginIme, EndIme, SuspendViewInput}
 use Rattle.script_calls.specs.declared.calls.PanelCall.the-variants.{CreateWindow, CloseWindow, CreateView, UpdateViewMetrics, CloseView, AttachSurface, UpdateSurfaceGeometry, UpdateSurfaceInputPolicy}
-use Rattle.script_calls.specs.declared.calls.ReadCall.the-variants.{ViewWindow, ViewMetrics, ViewInputState, ViewPointerCaptures, SurfaceDescriptor, ViewLayers, Counts, State}
+use Rattle.script_calls.specs.declared.calls.ReadCall.the-variants.{ViewWindow, ViewMetrics, ViewInputState, ViewPointerCaptures, SurfaceDescriptor, ViewLayers, Traces, Counts, State}
 use Rattle.script_calls.specs.declared.calls.Start.{Start}
-use Rattle.script_calls.specs.Groups.{u32At, u64At, handleAt, optionalAt, pointerAt, limitsAt}
-use Rattle.script_calls.specs.Shapes.{flagAt, policyAt, geometryAt, metricsAt, descriptorAt}
+use Rattle.script_fields.specs.declared.list_fields.RegistrationsField.{RegistrationsField}
+use Rattle.script_fields.specs.Events.{eventAt}
+use Rattle.script_fields.specs.Groups.{u32At, u64At, handleAt, optionalAt, pointerAt, limitsAt}
+use Rattle.script_fields.specs.ListFields.{hitsAt, registrationsAt}
+use Rattle.script_fields.specs.Shapes.{flagAt, policyAt, transformAt, pointAt, geometryAt, metricsAt, descriptorAt}
 
 -- the call, if the line has as many fields as the verb asks for and they are in their ranges
 abbrev pub callIf : Call → ℕ → ℕ → Bool → Call
@@ -76,6 +82,27 @@ policyCall fs = callIf (Panel (UpdateSurfaceInputPolicy (record { surface = hand
 unfoldable pub focusCall : Fields → Call
 focusCall fs = callIf (Input (SetFocus (record { view = handleAt fs 0 .handle; surface = optionalAt fs 2 .value; revision = u64At fs 5 .value }))) (fs .count) 6 (handleAt fs 0 .fits && (optionalAt fs 2 .fits && u64At fs 5 .fits))
 
+-- a list stands beside its call: the registrations behind a panel and a revision, and the hits behind a view and an event
+abbrev pub registrationsOf : Fields → RegistrationsField
+registrationsOf fs = registrationsAt fs 3
+
+abbrev pub hitsOf : Fields → Hits
+hitsOf fs = hitsAt fs 10 .hits
+
+-- S, revision, count, then three fields for each registration
+unfoldable pub registerCall : Fields → Call
+registerCall fs = callIf (RegisterShortcuts (handleRevision fs .given)) (fs .count) (4 + 3 * registrationsOf fs .len) (handleRevision fs .fits && registrationsOf fs .fits)
+
+-- V, kind, K, O, mask, count, then two fields for each hit
+unfoldable pub arbitrateCall : Fields → Call
+arbitrateCall fs = callIf (Arbitrate (record { view = handleAt fs 0 .handle; event = eventAt fs 2 .event })) (fs .count) (11 + 2 * hitsOf fs .len) (handleAt fs 0 .fits && (eventAt fs 2 .fits && hitsAt fs 10 .fits))
+
+unfoldable pub hitTestCall : Fields → Call
+hitTestCall fs = callIf (Hit (HitTestStack (record { view = handleAt fs 0 .handle; point = pointAt fs 2 .point; length = u64At fs 4 .value }))) (fs .count) 5 (handleAt fs 0 .fits && (pointAt fs 2 .fits && u64At fs 4 .fits))
+
+unfoldable pub inversePointCall : Fields → Call
+inversePointCall fs = callIf (Hit (InversePoint (record { transform = transformAt fs 0 .transform; point = pointAt fs 6 .point }))) (fs .count) 8 (transformAt fs 0 .fits && pointAt fs 6 .fits)
+
 -- the call of a verb; a verb that is not carried yet is no call
 abbrev pub callOf : Verb → Fields → Call
 callOf verb.Digest fs = digestCall fs
@@ -89,6 +116,7 @@ callOf verb.CloseView fs = ifHandle (Panel (CloseView (handleAt fs 0 .handle))) 
 callOf verb.AttachSurface fs = attachCall fs
 callOf verb.UpdateSurfaceGeometry fs = geometryCall fs
 callOf verb.UpdateSurfaceInputPolicy fs = policyCall fs
+callOf verb.RegisterSurfaceSystemShortcutSet fs = registerCall fs
 callOf verb.SetFocus fs = focusCall fs
 callOf verb.CapturePointer fs = ifRevision (Input (CapturePointer (handleRevision fs .given))) fs
 callOf verb.CapturePointerFor fs = ifPointer (Input (CapturePointerFor (pointerRevision fs .given))) fs
@@ -98,25 +126,24 @@ callOf verb.ReleaseDevicePointerCaptures fs = deviceCall fs
 callOf verb.BeginIme fs = ifRevision (Input (BeginIme (handleRevision fs .given))) fs
 callOf verb.EndIme fs = ifRevision (Input (EndIme (handleRevision fs .given))) fs
 callOf verb.SuspendViewInput fs = ifRevision (Input (SuspendViewInput (handleRevision fs .given))) fs
+callOf verb.Arbitrate fs = arbitrateCall fs
+callOf verb.CloseSurface fs = ifHandle (Close (CloseSurface (handleAt fs 0 .handle))) fs
+callOf verb.Shutdown fs = ifEmpty (Close Shutdown) fs
+callOf verb.HitTestStack fs = hitTestCall fs
+callOf verb.InversePoint fs = inversePointCall fs
 callOf verb.ViewWindow fs = ifHandle (Read (ViewWindow (handleAt fs 0 .handle))) fs
 callOf verb.ViewMetrics fs = ifHandle (Read (ViewMetrics (handleAt fs 0 .handle))) fs
 callOf verb.ViewInputState fs = ifHandle (Read (ViewInputState (handleAt fs 0 .handle))) fs
 callOf verb.ViewPointerCaptures fs = ifHandle (Read (ViewPointerCaptures (handleAt fs 0 .handle))) fs
 callOf verb.SurfaceDescriptor fs = ifHandle (Read (SurfaceDescriptor (handleAt fs 0 .handle))) fs
 callOf verb.ViewLayers fs = ifHandle (Read (ViewLayers (handleAt fs 0 .handle))) fs
+callOf verb.Traces fs = ifEmpty (Read Traces) fs
 callOf verb.Counts fs = ifEmpty (Read Counts) fs
 callOf verb.State fs = ifEmpty (Read State) fs
 callOf verb.Unknown fs = NoCall
 callOf verb.Router fs = NoCall
-callOf verb.RegisterSurfaceSystemShortcutSet fs = NoCall
-callOf verb.Arbitrate fs = NoCall
-callOf verb.CloseSurface fs = NoCall
-callOf verb.Shutdown fs = NoCall
-callOf verb.HitTestStack fs = NoCall
-callOf verb.InversePoint fs = NoCall
 callOf verb.Route fs = NoCall
 callOf verb.ReleaseSurface fs = NoCall
 callOf verb.ReleaseAll fs = NoCall
-callOf verb.Traces fs = NoCall
 callOf verb.ActiveBindingCount fs = NoCall
 callOf verb.RouterState fs = NoCall

@@ -1,30 +1,39 @@
 // The arguments of each call: a call where the line has as many fields as the verb asks for and each is in its range.
 ghost use mathlib.Core.Path.{_≡_};
-ghost use Rattle.script_calls.specs.Calls.{callIf, startAt, startFits, handleRevision, pointerRevision, digestCall, newCall, newAtCall, deviceCall, metricsCall, attachCall, geometryCall, policyCall, focusCall};
+ghost use Rattle.script_calls.specs.Calls.{callIf, startAt, startFits, handleRevision, pointerRevision, digestCall, newCall, newAtCall, deviceCall, metricsCall, attachCall, geometryCall, policyCall, focusCall, registerCall, arbitrateCall, hitTestCall, inversePointCall};
+use crate::calls::ArbitrateArguments;
 use crate::calls::Call;
 use crate::calls::DeviceArguments;
 use crate::calls::FocusArguments;
 use crate::calls::GeometryArguments;
 use crate::calls::HandleArguments;
+use crate::calls::HitCall;
+use crate::calls::HitTestArguments;
 use crate::calls::InputCall;
+use crate::calls::InversePointArguments;
 use crate::calls::MetricsArguments;
 use crate::calls::PanelCall;
 use crate::calls::PointerArguments;
 use crate::calls::PolicyArguments;
 use crate::calls::Start;
-use crate::geometry_fields::descriptor_field;
-use crate::geometry_fields::flag_field;
-use crate::geometry_fields::geometry_field;
-use crate::geometry_fields::metrics_field;
-use crate::geometry_fields::policy_field;
-use crate::groups::handle_field;
-use crate::groups::limits_field;
-use crate::groups::optional_field;
-use crate::groups::pointer_field;
-use crate::groups::u32_field;
-use crate::groups::u64_field;
 use lists::both;
 use script::line::Fields;
+use script_fields::event_fields::event_field;
+use script_fields::geometry_fields::descriptor_field;
+use script_fields::geometry_fields::flag_field;
+use script_fields::geometry_fields::geometry_field;
+use script_fields::geometry_fields::metrics_field;
+use script_fields::geometry_fields::point_field;
+use script_fields::geometry_fields::policy_field;
+use script_fields::geometry_fields::transform_field;
+use script_fields::groups::handle_field;
+use script_fields::groups::limits_field;
+use script_fields::groups::optional_field;
+use script_fields::groups::pointer_field;
+use script_fields::groups::u32_field;
+use script_fields::groups::u64_field;
+use script_fields::list_fields::hits_field;
+use script_fields::list_fields::registrations_field;
 
 // The call, if the line has the right number of fields and they fit.
 pub fn call_if(call: Call, count: usize, expected: usize, fits: bool) -> Call
@@ -235,4 +244,73 @@ pub fn pointer_revision(fields: Fields) -> PointerRevision
         given,
         fits: both(pointed.fits, both(named.fits, revision.fits)),
     }
+}
+
+// The list stands beside the call, in `read_registrations`.
+pub fn register(fields: Fields) -> Call
+    ensures { λ r. ⌜ r ≡ registerCall fields ⌝ }
+{
+    let read = handle_revision(fields);
+    let list = registrations_field(fields, 3);
+    let given = read.given;
+    call_if(
+        Call::RegisterShortcuts(given),
+        fields.count,
+        4 + 3 * list.len,
+        both(read.fits, list.fits),
+    )
+}
+
+// The hits stand beside the call, in `read_hits`.
+pub fn arbitrate(fields: Fields) -> Call
+    ensures { λ r. ⌜ r ≡ arbitrateCall fields ⌝ }
+{
+    let named = handle_field(fields, 0);
+    let read = event_field(fields, 2);
+    let list = hits_field(fields, 10);
+    let view = named.handle;
+    let event = read.event;
+    let hits = list.hits;
+    let given = ArbitrateArguments { view, event };
+    let fits = both(named.fits, both(read.fits, list.fits));
+    call_if(
+        Call::Arbitrate(given),
+        fields.count,
+        11 + 2 * hits.len,
+        fits,
+    )
+}
+
+pub fn hit_test(fields: Fields) -> Call
+    ensures { λ r. ⌜ r ≡ hitTestCall fields ⌝ }
+{
+    let named = handle_field(fields, 0);
+    let placed = point_field(fields, 2);
+    let length = u64_field(fields, 4);
+    let view = named.handle;
+    let point = placed.point;
+    let given = HitTestArguments {
+        view,
+        point,
+        length: length.value,
+    };
+    let fits = both(named.fits, both(placed.fits, length.fits));
+    call_if(
+        Call::Hit(HitCall::HitTestStack(given)),
+        fields.count,
+        5,
+        fits,
+    )
+}
+
+pub fn inverse_point(fields: Fields) -> Call
+    ensures { λ r. ⌜ r ≡ inversePointCall fields ⌝ }
+{
+    let matrix = transform_field(fields, 0);
+    let placed = point_field(fields, 6);
+    let transform = matrix.transform;
+    let point = placed.point;
+    let given = InversePointArguments { transform, point };
+    let call = Call::Hit(HitCall::InversePoint(given));
+    call_if(call, fields.count, 8, both(matrix.fits, placed.fits))
 }

@@ -2,8 +2,11 @@
 use composition_state::registry::CompositionLimits;
 use composition_state::surface::SurfaceDescriptor;
 use composition_state::surface::SurfaceInputPolicy;
+use composition_state::trace::ArbitrationEvent;
 use geometry::metrics::ViewMetricsUpdate;
 use geometry::surface::SurfaceGeometry;
+use geometry::transform::Point;
+use geometry::transform::SurfaceTransform;
 use handles::handle::GenerationalHandle;
 use handles::handle::OptionalHandle;
 use maps::keys::CompositionPointerId;
@@ -58,6 +61,23 @@ pub struct DeviceArguments {
     pub device_generation: u32,
 }
 
+pub struct ArbitrateArguments {
+    pub view: GenerationalHandle,
+    pub event: ArbitrationEvent,
+}
+
+// `length` is that of the lent buffer, in numbers.
+pub struct HitTestArguments {
+    pub view: GenerationalHandle,
+    pub point: Point,
+    pub length: u64,
+}
+
+pub struct InversePointArguments {
+    pub transform: SurfaceTransform,
+    pub point: Point,
+}
+
 pub enum PanelCall {
     CreateWindow,
     CloseWindow(GenerationalHandle),
@@ -80,6 +100,16 @@ pub enum InputCall {
     SuspendViewInput(HandleArguments),
 }
 
+pub enum CloseCall {
+    CloseSurface(GenerationalHandle),
+    Shutdown,
+}
+
+pub enum HitCall {
+    HitTestStack(HitTestArguments),
+    InversePoint(InversePointArguments),
+}
+
 pub enum ReadCall {
     ViewWindow(GenerationalHandle),
     ViewMetrics(GenerationalHandle),
@@ -87,11 +117,13 @@ pub enum ReadCall {
     ViewPointerCaptures(GenerationalHandle),
     SurfaceDescriptor(GenerationalHandle),
     ViewLayers(GenerationalHandle),
+    Traces,
     Counts,
     State,
 }
 
-// `NoCall` stands for a line that is no call.
+// `NoCall` stands for a line that is no call. An enum holds no array: the registrations and the hits of a line stand beside its call,
+// in `read_registrations` and `read_hits`.
 pub enum Call {
     NoCall,
     Digest(bool),
@@ -99,5 +131,9 @@ pub enum Call {
     ReleaseDevice(DeviceArguments),
     Panel(PanelCall),
     Input(InputCall),
+    RegisterShortcuts(HandleArguments),
+    Arbitrate(ArbitrateArguments),
+    Close(CloseCall),
+    Hit(HitCall),
     Read(ReadCall),
 }

@@ -1,6 +1,4 @@
 // A line's verb and numbers as a call with its arguments.
 pub mod arguments;
 pub mod calls;
-pub mod geometry_fields;
-pub mod groups;
 pub mod read;

@@ -1,21 +1,26 @@
 // The call that a line is, by its verb.
 ghost use mathlib.Core.Path.{_≡_};
-ghost use Rattle.script_calls.specs.Groups.{handleAt};
-ghost use Rattle.script_calls.specs.Calls.{ifEmpty, ifHandle, ifRevision, ifPointer, handleRevision, pointerRevision, callOf};
+ghost use Rattle.script_fields.specs.Groups.{handleAt};
+ghost use Rattle.script_calls.specs.Calls.{ifEmpty, ifHandle, ifRevision, ifPointer, handleRevision, pointerRevision, callOf, registrationsOf, hitsOf};
 use crate::arguments::call_if;
 use crate::arguments::handle_revision;
 use crate::arguments::pointer_revision;
 use crate::calls::Call;
+use crate::calls::CloseCall;
 use crate::calls::HandleArguments;
 use crate::calls::InputCall;
 use crate::calls::PanelCall;
 use crate::calls::PointerArguments;
 use crate::calls::ReadCall;
-use crate::groups::handle_field;
+use composition_state::trace::Hits;
 use handles::handle::GenerationalHandle;
 use script::line::Fields;
 use script::line::Line;
 use script::verb::Verb;
+use script_fields::groups::handle_field;
+use script_fields::list_fields::RegistrationsField;
+use script_fields::list_fields::hits_field;
+use script_fields::list_fields::registrations_field;
 
 fn if_empty(call: Call, fields: Fields) -> Call
     ensures { λ r. ⌜ r ≡ ifEmpty call fields ⌝ }
@@ -89,7 +94,7 @@ fn read_fields(verb: Verb, fields: Fields) -> Call
         Verb::AttachSurface => crate::arguments::attach(fields),
         Verb::UpdateSurfaceGeometry => crate::arguments::shape(fields),
         Verb::UpdateSurfaceInputPolicy => crate::arguments::policy(fields),
-        Verb::RegisterSurfaceSystemShortcutSet => Call::NoCall,
+        Verb::RegisterSurfaceSystemShortcutSet => crate::arguments::register(fields),
         Verb::SetFocus => crate::arguments::focus(fields),
         Verb::CapturePointer => if_revision(Call::Input(InputCall::CapturePointer(a)), fields),
         Verb::CapturePointerFor => if_pointer(Call::Input(InputCall::CapturePointerFor(p)), fields),
@@ -99,11 +104,11 @@ fn read_fields(verb: Verb, fields: Fields) -> Call
         Verb::BeginIme => if_revision(Call::Input(InputCall::BeginIme(a)), fields),
         Verb::EndIme => if_revision(Call::Input(InputCall::EndIme(a)), fields),
         Verb::SuspendViewInput => if_revision(Call::Input(InputCall::SuspendViewInput(a)), fields),
-        Verb::Arbitrate => Call::NoCall,
-        Verb::CloseSurface => Call::NoCall,
-        Verb::Shutdown => Call::NoCall,
-        Verb::HitTestStack => Call::NoCall,
-        Verb::InversePoint => Call::NoCall,
+        Verb::Arbitrate => crate::arguments::arbitrate(fields),
+        Verb::CloseSurface => if_handle(Call::Close(CloseCall::CloseSurface(h)), fields),
+        Verb::Shutdown => if_empty(Call::Close(CloseCall::Shutdown), fields),
+        Verb::HitTestStack => crate::arguments::hit_test(fields),
+        Verb::InversePoint => crate::arguments::inverse_point(fields),
         Verb::Route => Call::NoCall,
         Verb::ReleaseSurface => Call::NoCall,
         Verb::ReleaseAll => Call::NoCall,
@@ -116,7 +121,7 @@ fn read_fields(verb: Verb, fields: Fields) -> Call
         ),
         Verb::SurfaceDescriptor => if_handle(Call::Read(ReadCall::SurfaceDescriptor(h)), fields),
         Verb::ViewLayers => if_handle(Call::Read(ReadCall::ViewLayers(h)), fields),
-        Verb::Traces => Call::NoCall,
+        Verb::Traces => if_empty(Call::Read(ReadCall::Traces), fields),
         Verb::Counts => if_empty(Call::Read(ReadCall::Counts), fields),
         Verb::ActiveBindingCount => Call::NoCall,
         Verb::State => if_empty(Call::Read(ReadCall::State), fields),
@@ -130,4 +135,21 @@ pub fn read_call(line: Line) -> Call
     let verb = line.verb;
     let fields = line.fields;
     read_fields(verb, fields)
+}
+
+// The registrations of a line whose call is `RegisterShortcuts`.
+pub fn read_registrations(line: Line) -> RegistrationsField
+    ensures { λ r. ⌜ r ≡ registrationsOf (line .fields) ⌝ }
+{
+    let fields = line.fields;
+    registrations_field(fields, 3)
+}
+
+// The hits of a line whose call is `Arbitrate`.
+pub fn read_hits(line: Line) -> Hits
+    ensures { λ r. ⌜ r ≡ hitsOf (line .fields) ⌝ }
+{
+    let fields = line.fields;
+    let list = hits_field(fields, 10);
+    list.hits
 }

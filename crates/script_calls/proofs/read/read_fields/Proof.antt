@@ -87,6 +87,9 @@ policy-requires c κs = search needs
 enum-told-14 : tie.Need-enum-told-14
 enum-told-14 c = search needs
 
+register-requires : tie.Need-register-requires
+register-requires c κs = search needs
+
 enum-told-15 : tie.Need-enum-told-15
 enum-told-15 c = search needs
 
@@ -144,17 +147,32 @@ if-revision-requires-5 c κs = search needs
 enum-told-24 : tie.Need-enum-told-24
 enum-told-24 c = search needs
 
+arbitrate-requires : tie.Need-arbitrate-requires
+arbitrate-requires c κs = search needs
+
 enum-told-25 : tie.Need-enum-told-25
 enum-told-25 c = search needs
+
+if-handle-requires-4 : tie.Need-if-handle-requires-4
+if-handle-requires-4 c κs = search needs
 
 enum-told-26 : tie.Need-enum-told-26
 enum-told-26 c = search needs
 
+if-empty-requires-2 : tie.Need-if-empty-requires-2
+if-empty-requires-2 c κs = search needs
+
 enum-told-27 : tie.Need-enum-told-27
 enum-told-27 c = search needs
 
+hit-test-requires : tie.Need-hit-test-requires
+hit-test-requires c κs = search needs
+
 enum-told-28 : tie.Need-enum-told-28
 enum-told-28 c = search needs
+
+inverse-point-requires : tie.Need-inverse-point-requires
+inverse-point-requires c κs = search needs
 
 enum-told-29 : tie.Need-enum-told-29
 enum-told-29 c = search needs
@@ -168,47 +186,50 @@ enum-told-31 c = search needs
 enum-told-32 : tie.Need-enum-told-32
 enum-told-32 c = search needs
 
-if-handle-requires-4 : tie.Need-if-handle-requires-4
-if-handle-requires-4 c κs = search needs
+if-handle-requires-5 : tie.Need-if-handle-requires-5
+if-handle-requires-5 c κs = search needs
 
 enum-told-33 : tie.Need-enum-told-33
 enum-told-33 c = search needs
 
-if-handle-requires-5 : tie.Need-if-handle-requires-5
-if-handle-requires-5 c κs = search needs
+if-handle-requires-6 : tie.Need-if-handle-requires-6
+if-handle-requires-6 c κs = search needs
 
 enum-told-34 : tie.Need-enum-told-34
 enum-told-34 c = search needs
 
-if-handle-requires-6 : tie.Need-if-handle-requires-6
-if-handle-requires-6 c κs = search needs
+if-handle-requires-7 : tie.Need-if-handle-requires-7
+if-handle-requires-7 c κs = search needs
 
 enum-told-35 : tie.Need-enum-told-35
 enum-told-35 c = search needs
 
-if-handle-requires-7 : tie.Need-if-handle-requires-7
-if-handle-requires-7 c κs = search needs
+if-handle-requires-8 : tie.Need-if-handle-requires-8
+if-handle-requires-8 c κs = search needs
 
 enum-told-36 : tie.Need-enum-told-36
 enum-told-36 c = search needs
 
-if-handle-requires-8 : tie.Need-if-handle-requires-8
-if-handle-requires-8 c κs = search needs
+if-handle-requires-9 : tie.Need-if-handle-requires-9
+if-handle-requires-9 c κs = search needs
 
 enum-told-37 : tie.Need-enum-told-37
 enum-told-37 c = search needs
 
-if-handle-requires-9 : tie.Need-if-handle-requires-9
-if-handle-requires-9 c κs = search needs
+if-handle-requires-10 : tie.Need-if-handle-requires-10
+if-handle-requires-10 c κs = search needs
 
 enum-told-38 : tie.Need-enum-told-38
 enum-told-38 c = search needs
 
+if-empty-requires-3 : tie.Need-if-empty-requires-3
+if-empty-requires-3 c κs = search needs
+
 enum-told-39 : tie.Need-enum-told-39
 enum-told-39 c = search needs
 
-if-empty-requires-2 : tie.Need-if-empty-requires-2
-if-empty-requires-2 c κs = search needs
+if-empty-requires-4 : tie.Need-if-empty-requires-4
+if-empty-requires-4 c κs = search needs
 
 enum-told-40 : tie.Need-enum-told-40
 enum-told-40 c = search needs
@@ -216,8 +237,8 @@ enum-told-40 c = search needs
 enum-told-41 : tie.Need-enum-told-41
 enum-told-41 c = search needs
 
-if-empty-requires-3 : tie.Need-if-empty-requires-3
-if-empty-requires-3 c κs = search needs
+if-empty-requires-5 : tie.Need-if-empty-requires-5
+if-empty-requires-5 c κs = search needs
 
 enum-told-42 : tie.Need-enum-told-42
 enum-told-42 c = search needs
@@ -262,7 +283,7 @@ returns-13 : tie.Need-returns-13
 returns-13 c = rw (c .before .enum-told13 .given .1, c .policy .ensures)
 
 returns-14 : tie.Need-returns-14
-returns-14 c = rw (c .enum-told14 .given .1)
+returns-14 c = rw (c .before .enum-told14 .given .1, c .register .ensures)
 
 returns-15 : tie.Need-returns-15
 returns-15 c = rw (c .before .enum-told15 .given .1, c .focus .ensures)
@@ -292,19 +313,19 @@ returns-23 : tie.Need-returns-23
 returns-23 c = rw (c .before .enum-told23 .given .1, c .if-revision5 .ensures, c .before .before .before .before .first-arguments .ensures)
 
 returns-24 : tie.Need-returns-24
-returns-24 c = rw (c .enum-told24 .given .1)
+returns-24 c = rw (c .before .enum-told24 .given .1, c .arbitrate .ensures)
 
 returns-25 : tie.Need-returns-25
-returns-25 c = rw (c .enum-told25 .given .1)
+returns-25 c = rw (c .before .enum-told25 .given .1, c .if-handle4 .ensures, c .before .before .before .before .before .first-handle .ensures)
 
 returns-26 : tie.Need-returns-26
-returns-26 c = rw (c .enum-told26 .given .1)
+returns-26 c = rw (c .before .enum-told26 .given .1, c .if-empty2 .ensures)
 
 returns-27 : tie.Need-returns-27
-returns-27 c = rw (c .enum-told27 .given .1)
+returns-27 c = rw (c .before .enum-told27 .given .1, c .hit-test .ensures)
 
 returns-28 : tie.Need-returns-28
-returns-28 c = rw (c .enum-told28 .given .1)
+returns-28 c = rw (c .before .enum-told28 .given .1, c .inverse-point .ensures)
 
 returns-29 : tie.Need-returns-29
 returns-29 c = rw (c .enum-told29 .given .1)
@@ -316,34 +337,34 @@ returns-31 : tie.Need-returns-31
 returns-31 c = rw (c .enum-told31 .given .1)
 
 returns-32 : tie.Need-returns-32
-returns-32 c = rw (c .before .enum-told32 .given .1, c .if-handle4 .ensures, c .before .before .before .before .before .first-handle .ensures)
+returns-32 c = rw (c .before .enum-told32 .given .1, c .if-handle5 .ensures, c .before .before .before .before .before .first-handle .ensures)
 
 returns-33 : tie.Need-returns-33
-returns-33 c = rw (c .before .enum-told33 .given .1, c .if-handle5 .ensures, c .before .before .before .before .before .first-handle .ensures)
+returns-33 c = rw (c .before .enum-told33 .given .1, c .if-handle6 .ensures, c .before .before .before .before .before .first-handle .ensures)
 
 returns-34 : tie.Need-returns-34
-returns-34 c = rw (c .before .enum-told34 .given .1, c .if-handle6 .ensures, c .before .before .before .before .before .first-handle .ensures)
+returns-34 c = rw (c .before .enum-told34 .given .1, c .if-handle7 .ensures, c .before .before .before .before .before .first-handle .ensures)
 
 returns-35 : tie.Need-returns-35
-returns-35 c = rw (c .before .enum-told35 .given .1, c .if-handle7 .ensures, c .before .before .before .before .before .first-handle .ensures)
+returns-35 c = rw (c .before .enum-told35 .given .1, c .if-handle8 .ensures, c .before .before .before .before .before .first-handle .ensures)
 
 returns-36 : tie.Need-returns-36
-returns-36 c = rw (c .before .enum-told36 .given .1, c .if-handle8 .ensures, c .before .before .before .before .before .first-handle .ensures)
+returns-36 c = rw (c .before .enum-told36 .given .1, c .if-handle9 .ensures, c .before .before .before .before .before .first-handle .ensures)
 
 returns-37 : tie.Need-returns-37
-returns-37 c = rw (c .before .enum-told37 .given .1, c .if-handle9 .ensures, c .before .before .before .before .before .first-handle .ensures)
+returns-37 c = rw (c .before .enum-told37 .given .1, c .if-handle10 .ensures, c .before .before .before .before .before .first-handle .ensures)
 
 returns-38 : tie.Need-returns-38
-returns-38 c = rw (c .enum-told38 .given .1)
+returns-38 c = rw (c .before .enum-told38 .given .1, c .if-empty3 .ensures)
 
 returns-39 : tie.Need-returns-39
-returns-39 c = rw (c .before .enum-told39 .given .1, c .if-empty2 .ensures)
+returns-39 c = rw (c .before .enum-told39 .given .1, c .if-empty4 .ensures)
 
 returns-40 : tie.Need-returns-40
 returns-40 c = rw (c .enum-told40 .given .1)
 
 returns-41 : tie.Need-returns-41
-returns-41 c = rw (c .before .enum-told41 .given .1, c .if-empty3 .ensures)
+returns-41 c = rw (c .before .enum-told41 .given .1, c .if-empty5 .ensures)
 
 returns-42 : tie.Need-returns-42
 returns-42 c = rw (c .enum-told42 .given .1)
@@ -352,21 +373,125 @@ pub read-fields-spec : {M : Type 1} → statement M
 read-fields-spec =
     tie.close
     (tie.spec
-    first-handle-requires first-arguments-requires pointer-arguments-requires enum-told enum-told-2
-    digest-requires enum-told-3 new-call-requires enum-told-4 new-at-call-requires enum-told-5
-    enum-told-6 if-empty-requires enum-told-7 if-handle-requires enum-told-8 if-handle-requires-2
-    enum-told-9 metrics-requires enum-told-10 if-handle-requires-3 enum-told-11 attach-requires
-    enum-told-12 shape-requires enum-told-13 policy-requires enum-told-14 enum-told-15
-    focus-requires enum-told-16 if-revision-requires enum-told-17 if-pointer-requires enum-told-18
-    if-revision-requires-2 enum-told-19 if-pointer-requires-2 enum-told-20 device-requires
-    enum-told-21 if-revision-requires-3 enum-told-22 if-revision-requires-4 enum-told-23
-    if-revision-requires-5 enum-told-24 enum-told-25 enum-told-26 enum-told-27 enum-told-28
-    enum-told-29 enum-told-30 enum-told-31 enum-told-32 if-handle-requires-4 enum-told-33
-    if-handle-requires-5 enum-told-34 if-handle-requires-6 enum-told-35 if-handle-requires-7
-    enum-told-36 if-handle-requires-8 enum-told-37 if-handle-requires-9 enum-told-38 enum-told-39
-    if-empty-requires-2 enum-told-40 enum-told-41 if-empty-requires-3 enum-told-42 returns returns-2
-    returns-3 returns-4 returns-5 returns-6 returns-7 returns-8 returns-9 returns-10 returns-11
-    returns-12 returns-13 returns-14 returns-15 returns-16 returns-17 returns-18 returns-19
-    returns-20 returns-21 returns-22 returns-23 returns-24 returns-25 returns-26 returns-27
-    returns-28 returns-29 returns-30 returns-31 returns-32 returns-33 returns-34 returns-35
-    returns-36 returns-37 returns-38 returns-39 returns-40 returns-41 returns-42)
+    first-handle-requires
+    first-arguments-requires
+    pointer-arguments-requires
+    enum-told
+    enum-told-2
+    digest-requires
+    enum-told-3
+    new-call-requires
+    enum-told-4
+    new-at-call-requires
+    enum-told-5
+    enum-told-6
+    if-empty-requires
+    enum-told-7
+    if-handle-requires
+    enum-told-8
+    if-handle-requires-2
+    enum-told-9
+    metrics-requires
+    enum-told-10
+    if-handle-requires-3
+    enum-told-11
+    attach-requires
+    enum-told-12
+    shape-requires
+    enum-told-13
+    policy-requires
+    enum-told-14
+    register-requires
+    enum-told-15
+    focus-requires
+    enum-told-16
+    if-revision-requires
+    enum-told-17
+    if-pointer-requires
+    enum-told-18
+    if-revision-requires-2
+    enum-told-19
+    if-pointer-requires-2
+    enum-told-20
+    device-requires
+    enum-told-21
+    if-revision-requires-3
+    enum-told-22
+    if-revision-requires-4
+    enum-told-23
+    if-revision-requires-5
+    enum-told-24
+    arbitrate-requires
+    enum-told-25
+    if-handle-requires-4
+    enum-told-26
+    if-empty-requires-2
+    enum-told-27
+    hit-test-requires
+    enum-told-28
+    inverse-point-requires
+    enum-told-29
+    enum-told-30
+    enum-told-31
+    enum-told-32
+    if-handle-requires-5
+    enum-told-33
+    if-handle-requires-6
+    enum-told-34
+    if-handle-requires-7
+    enum-told-35
+    if-handle-requires-8
+    enum-told-36
+    if-handle-requires-9
+    enum-told-37
+    if-handle-requires-10
+    enum-told-38
+    if-empty-requires-3
+    enum-told-39
+    if-empty-requires-4
+    enum-told-40
+    enum-told-41
+    if-empty-requires-5
+    enum-told-42
+    returns
+    returns-2
+    returns-3
+    returns-4
+    returns-5
+    returns-6
+    returns-7
+    returns-8
+    returns-9
+    returns-10
+    returns-11
+    returns-12
+    returns-13
+    returns-14
+    returns-15
+    returns-16
+    returns-17
+    returns-18
+    returns-19
+    returns-20
+    returns-21
+    returns-22
+    returns-23
+    returns-24
+    returns-25
+    returns-26
+    returns-27
+    returns-28
+    returns-29
+    returns-30
+    returns-31
+    returns-32
+    returns-33
+    returns-34
+    returns-35
+    returns-36
+    returns-37
+    returns-38
+    returns-39
+    returns-40
+    returns-41
+    returns-42)

@@ -1,0 +1,25 @@
+-- `policy_field` meets its contract: it is made of the fields that it reads.
+use borrow.Author.Needs.{needs}
+use Rattle.script_fields.proofs.geometry_fields.policy_field.Statement.{statement}
+use Rattle.script_fields.proofs.geometry_fields.policy_field.Tie as tie
+
+field-requires : tie.Need-field-requires
+field-requires c κs = search needs
+
+as-at-most-requires : tie.Need-as-at-most-requires
+as-at-most-requires c κs = search needs
+
+policy-of-requires : tie.Need-policy-of-requires
+policy-of-requires c κs = search needs
+
+returns : tie.Need-returns
+returns c =
+    rw (
+      c .policy-of .ensures,
+      c .before .as-at-most .ensures,
+      c .before .before .field .ensures,
+    )
+
+pub policy-field-spec : {M : Type 1} → statement M
+policy-field-spec =
+    tie.close (tie.spec field-requires as-at-most-requires policy-of-requires returns)

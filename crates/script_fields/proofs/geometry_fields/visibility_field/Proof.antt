@@ -1,0 +1,25 @@
+-- `visibility_field` meets its contract: it is made of the fields that it reads.
+use borrow.Author.Needs.{needs}
+use Rattle.script_fields.proofs.geometry_fields.visibility_field.Statement.{statement}
+use Rattle.script_fields.proofs.geometry_fields.visibility_field.Tie as tie
+
+field-requires : tie.Need-field-requires
+field-requires c κs = search needs
+
+as-at-most-requires : tie.Need-as-at-most-requires
+as-at-most-requires c κs = search needs
+
+visibility-of-requires : tie.Need-visibility-of-requires
+visibility-of-requires c κs = search needs
+
+returns : tie.Need-returns
+returns c =
+    rw (
+      c .visibility-of .ensures,
+      c .before .as-at-most .ensures,
+      c .before .before .field .ensures,
+    )
+
+pub visibility-field-spec : {M : Type 1} → statement M
+visibility-field-spec =
+    tie.close (tie.spec field-requires as-at-most-requires visibility-of-requires returns)

@@ -1,0 +1,48 @@
+-- `pointer_field` meets its contract: it is made of the fields that it reads.
+use borrow.Author.Needs.{needs}
+use Rattle.script_fields.proofs.groups.pointer_field.Statement.{statement}
+use Rattle.script_fields.proofs.groups.pointer_field.Tie as tie
+
+u64-field-requires : tie.Need-u64-field-requires
+u64-field-requires c κs = search needs
+
+add-u32-field : tie.Need-add-u32-field
+add-u32-field c = search needs
+
+u32-field-requires : tie.Need-u32-field-requires
+u32-field-requires c κs = search needs
+
+add-u32-field-2 : tie.Need-add-u32-field-2
+add-u32-field-2 c = search needs
+
+u32-field-requires-2 : tie.Need-u32-field-requires-2
+u32-field-requires-2 c κs = search needs
+
+both-requires : tie.Need-both-requires
+both-requires c κs = search needs
+
+both-requires-2 : tie.Need-both-requires-2
+both-requires-2 c κs = search needs
+
+returns : tie.Need-returns
+returns c =
+    rw (
+      c .both2 .ensures,
+      c .before .both .ensures,
+      c .before .before .u32-field2 .ensures,
+      c .before .before .before .u32-field .ensures,
+      c .before .before .before .before .u64-field .ensures,
+    )
+
+pub pointer-field-spec : {M : Type 1} → statement M
+pointer-field-spec =
+    tie.close
+    (tie.spec
+    u64-field-requires
+    add-u32-field
+    u32-field-requires
+    add-u32-field-2
+    u32-field-requires-2
+    both-requires
+    both-requires-2
+    returns)

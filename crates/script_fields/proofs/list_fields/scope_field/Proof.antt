@@ -1,0 +1,24 @@
+-- `scope_field` meets its contract: it is made of the fields that it reads.
+use borrow.Author.Needs.{needs}
+use Rattle.script_fields.proofs.list_fields.scope_field.Statement.{statement}
+use Rattle.script_fields.proofs.list_fields.scope_field.Tie as tie
+
+field-requires : tie.Need-field-requires
+field-requires c κs = search needs
+
+as-at-most-requires : tie.Need-as-at-most-requires
+as-at-most-requires c κs = search needs
+
+scope-of-requires : tie.Need-scope-of-requires
+scope-of-requires c κs = search needs
+
+returns : tie.Need-returns
+returns c =
+    rw (
+      c .scope-of .ensures,
+      c .before .as-at-most .ensures,
+      c .before .before .field .ensures,
+    )
+
+pub scope-field-spec : {M : Type 1} → statement M
+scope-field-spec = tie.close (tie.spec field-requires as-at-most-requires scope-of-requires returns)

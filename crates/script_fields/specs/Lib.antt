@@ -1,0 +1,4 @@
+pub mod Groups
+pub mod Shapes
+pub mod ListFields
+pub mod Events
