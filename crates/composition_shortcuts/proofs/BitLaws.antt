@@ -1,24 +1,14 @@
 -- A 64-bit and is not 0 exactly if some bit stands in both numbers, by induction on the number of bits.
-<<<<<<< HEAD
-use mathlib.Core.Path.{_≡_, refl, sym, ap, _∙_}
-use mathlib.Core.Bool.{Bool, true, false, not}
-use Prim.Native.Nat.{ℕ, zero, suc, _+_, _*_, _≤_, _<_, _/_, _%_, _^_}
-=======
 use mathlib.Core.Path.{_≡_, sym, ap, _∙_}
 use mathlib.Core.Bool.{true, not}
 use Prim.Native.Nat.{ℕ, zero, suc, _<_, _/_, _%_, _^_}
->>>>>>> shortcuts
 use native.Mathlib.Nat.{div-one, zero-div, mod-lt, div-lt-iff-lt-mul, div-div-eq-div-mul, pow-suc, pow-succ', min-comm, min-zero, zero-add}
 use native.Mathlib.Omega.{arith}
 use lib.Dec.{eqb}
 use lib.Bits.{bitAnd, and-step, and-zero-l, and-shr, and-mod}
 use borrow.Author.Tests.{eqb-true, eqb-false, eq-eqb}
 use Rattle.lists.proofs.ListLaws.{by-test, clash}
-<<<<<<< HEAD
-use Rattle.composition_shortcuts.specs.Resolve.{sharesBit}
-=======
 use Rattle.composition_shortcuts.specs.Scope.{sharesBit}
->>>>>>> shortcuts
 use Rattle.composition_shortcuts.specs.Claims.{Shared}
 
 -- one of the first n bits stands in both

@@ -1,11 +1,7 @@
 -- The order of candidates is a strict order, and how the greatest that counts changes with one registration more.
 use mathlib.Core.Path.{_≡_, refl, sym, ap, _∙_}
 use mathlib.Core.Bool.{Bool, true, false}
-<<<<<<< HEAD
-use mathlib.Core.List.{List, [], _∷_, _++_, map, append-nil}
-=======
 use mathlib.Core.List.{List, [], _∷_, _++_, append-nil}
->>>>>>> shortcuts
 use mathlib.Core.Option.{Option, none, some}
 use Prim.Native.Nat.{ℕ, _+_, _<_}
 use native.Mathlib.Numerals.{add-one}
@@ -29,20 +25,12 @@ use Rattle.composition_state.specs.declared.shortcut.SlotShortcut.{SlotShortcut
 use Rattle.composition_state.specs.declared.surface.SurfaceTable.{SurfaceTable}
 use Rattle.composition_state.specs.declared.view.ViewTable.{ViewTable}
 use Rattle.composition_state.specs.Shortcuts.{shortcuts}
-<<<<<<< HEAD
-use Rattle.composition_shortcuts.specs.declared.resolve.Candidate.{Candidate}
-use Rattle.composition_shortcuts.specs.declared.resolve.OptionalCandidate.{OptionalCandidate}
-use Rattle.composition_shortcuts.specs.declared.resolve.OptionalCandidate.the-variants.{None, Some}
-use Rattle.composition_shortcuts.specs.Greatest.{greatest}
-use Rattle.composition_shortcuts.specs.Resolve.{counts, candidateOf, candidates, rankOf, isLess, optional, bestOf}
-=======
 use Rattle.composition_shortcuts.specs.declared.candidate.Candidate.{Candidate}
 use Rattle.composition_shortcuts.specs.declared.candidate.OptionalCandidate.the-variants.{None, Some}
 use Rattle.composition_shortcuts.specs.Greatest.{greatest}
 use Rattle.composition_shortcuts.specs.Scope.{sharesBit, counts}
 use Rattle.composition_shortcuts.specs.Candidates.{candidateOf, rankOf, isLess, optional, bestOf}
 use Rattle.composition_shortcuts.specs.Resolve.{candidates, bestAmong}
->>>>>>> shortcuts
 use Rattle.composition_shortcuts.proofs.GreatestLaws.{greatest-none, greatest-one, greatest-new, greatest-old}
 
 -- ---- the order
@@ -86,14 +74,11 @@ module _ (l : List Candidate) (c : Candidate) where
 
 -- ---- one registration more
 module _ (views : ViewTable) (surfaces : SurfaceTable) (view : GenerationalHandle) (mask : ℕ) where
-<<<<<<< HEAD
-=======
   -- without a common class bit nothing counts
   unshared : (s : SlotShortcut) → sharesBit (s .registration .«class_mask») mask ≡ false → counts views surfaces view mask s ≡ false
   unfolding counts
   unshared s h = rw h
 
->>>>>>> shortcuts
   module _ (l : List SlotShortcut) (s : SlotShortcut) where
     pub candidates-yes : counts views surfaces view mask s ≡ true → candidates views surfaces view mask (l ++ (s ∷ [])) ≡ candidates views surfaces view mask l ++ (candidateOf surfaces view s ∷ [])
     candidates-yes t = rw (keep-append, t) (map-snoc (candidateOf surfaces view) (keep (counts views surfaces view mask) l) s)
@@ -101,11 +86,6 @@ module _ (views : ViewTable) (surfaces : SurfaceTable) (view : GenerationalHandl
     pub candidates-no : counts views surfaces view mask s ≡ false → candidates views surfaces view mask (l ++ (s ∷ [])) ≡ candidates views surfaces view mask l
     candidates-no t = rw (keep-append, t, append-nil)
 
-<<<<<<< HEAD
--- the entry at a place of the table comes after those before it
-pub take-entry : (t : Shortcuts) (i : ℕ) (d : SlotShortcut) → i < length (entriesOf shortcuts t) → take i (entriesOf shortcuts t) ++ (getD (t .entries) i d ∷ []) ≡ take (i + 1) (entriesOf shortcuts t)
-take-entry t i d h = rw (add-one, take-suc (entriesOf shortcuts t) i d h, entry shortcuts t i d h)
-=======
   -- ---- one turn of the loop over the table
   module _ (t : Shortcuts) (i : ℕ) (d : SlotShortcut) (within : i < length (entriesOf shortcuts t)) where
     pub turn-considered : bestAmong views surfaces view mask (take i (entriesOf shortcuts t) ++ (getD (t .entries) i d ∷ [])) ≡ bestAmong views surfaces view mask (take (i + 1) (entriesOf shortcuts t))
@@ -113,4 +93,3 @@ take-entry t i d h = rw (add-one, take-suc (entriesOf shortcuts t) i d h, entry 
 
     pub turn-skipped : sharesBit (getD (t .entries) i d .registration .«class_mask») mask ≡ false → bestAmong views surfaces view mask (take i (entriesOf shortcuts t)) ≡ bestAmong views surfaces view mask (take (i + 1) (entriesOf shortcuts t))
     turn-skipped h = sym (ap bestOf (candidates-no (take i (entriesOf shortcuts t)) (getD (t .entries) i d) (unshared (getD (t .entries) i d) h))) ∙ turn-considered
->>>>>>> shortcuts

@@ -3,11 +3,7 @@ use mathlib.Core.Path.{_≡_, refl, sym, ap, _∙_}
 use mathlib.Core.Bool.{Bool, true, false, not, _&&_}
 use mathlib.Core.Logic.{⊎-elim}
 use mathlib.Core.List.{List, [], _∷_, _++_, List·Memᴰ, List·Memᴰ·head, List·Memᴰ·tail, List·Memᴰ·not-nil, List·Memᴰ·cases-cons}
-<<<<<<< HEAD
-use mathlib.Core.Option.{Option, none, some}
-=======
 use mathlib.Core.Option.{none, some}
->>>>>>> shortcuts
 use Rattle.lists.specs.Lists.{first, all}
 use Rattle.lists.specs.Orders.{Ordered}
 use Rattle.lists.proofs.ListLaws.{by-test, clash, some≢none, and-left, and-right, and-both, all-append, first-append}

@@ -3,9 +3,6 @@ pub mod GreatestLaws
 pub mod CandidateLaws
 pub mod LivePanelLaws
 pub mod BitLaws
-<<<<<<< HEAD
-=======
 pub mod WinnerLaws
 pub mod SetLaws
->>>>>>> shortcuts
 pub mod ClaimLaws

@@ -6,10 +6,6 @@ use mathlib.Core.List.{List, _++_, map, append-assoc}
 use native.Mathlib.Numerals.{add-one}
 use native.Mathlib.Omega.{arith}
 use borrow.Author.Tests.{leb-true}
-<<<<<<< HEAD
-use lib.Dec.{leb}
-=======
->>>>>>> shortcuts
 use lib.ListN.{length, take, getD, length-append, length-map, length-take}
 use lib.Seq.{take-suc}
 use mir.Val.{Val}

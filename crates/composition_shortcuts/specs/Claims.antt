@@ -18,17 +18,11 @@ use Rattle.composition_state.specs.Settles.{Settles}
 use Rattle.composition_state.specs.Shortcuts.{shortcuts}
 use Rattle.composition_state.specs.Surfaces.{surfaceStatus, descriptorOf}
 use Rattle.composition_shortcuts.specs.declared.register.Registrations.{Registrations}
-<<<<<<< HEAD
-use Rattle.composition_shortcuts.specs.declared.resolve.Candidate.{Candidate}
-use Rattle.composition_shortcuts.specs.Register.{registrations, registerSurfaceSystemShortcutSet}
-use Rattle.composition_shortcuts.specs.Resolve.{sharesBit, ownerOf, counts, candidateOf, isLess, resolveSystemShortcut}
-=======
 use Rattle.composition_shortcuts.specs.declared.candidate.Candidate.{Candidate}
 use Rattle.composition_shortcuts.specs.Register.{registrations, replacedEntries, registerSurfaceSystemShortcutSet}
 use Rattle.composition_shortcuts.specs.Scope.{sharesBit, ownerOf, counts}
 use Rattle.composition_shortcuts.specs.Candidates.{candidateOf, isLess}
 use Rattle.composition_shortcuts.specs.Resolve.{resolveSystemShortcut}
->>>>>>> shortcuts
 
 -- a registration of the table that counts
 pub record Counts (r : CompositionRegistry) (view : GenerationalHandle) (mask : ℕ) (s : SlotShortcut) : Type 0 where
@@ -73,12 +67,9 @@ pub record ShortcutClaims : Type 0 where
   -- a refusal of the set call other than 21 changes nothing, and an accepted one raises the revision by exactly 1
   pub set-settles : (r : CompositionRegistry) (h : GenerationalHandle) (t : Registrations) (n : ℕ)
       → Settles r (registerSurfaceSystemShortcutSet r h t n .outcome) (registerSurfaceSystemShortcutSet r h t n .registry)
-<<<<<<< HEAD
-=======
   -- an accepted set call leaves the registrations of the other slots, then the list, in their order
   pub set-stores : (r : CompositionRegistry) (h : GenerationalHandle) (t : Registrations) (n : ℕ) → registerSurfaceSystemShortcutSet r h t n .outcome ≡ Accepted
       → entriesOf shortcuts (registerSurfaceSystemShortcutSet r h t n .registry .shortcuts) ≡ replacedEntries (h .index) t (r .shortcuts)
->>>>>>> shortcuts
   -- an empty list is never refused 18, whatever the policy
   pub empty-fits : (r : CompositionRegistry) (h : GenerationalHandle) (t : Registrations) (n : ℕ) → t .len ≡ 0 → numberOf (registerSurfaceSystemShortcutSet r h t n .outcome) ≡ 18 → ⊥
   -- document 01, Counter table: 65 registrations on an Observe panel: 3; one there: 18; none: accepted

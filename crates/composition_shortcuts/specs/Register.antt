@@ -27,10 +27,7 @@ use Rattle.composition_shortcuts.specs.declared.register.Registrations.{
 use Rattle.composition_shortcuts.specs.declared.register.OptionalRegistration.{OptionalRegistration}
 use Rattle.composition_shortcuts.specs.declared.register.OptionalRegistration.the-variants.{None, Some}
 
-<<<<<<< HEAD
-=======
 -- what a plain mask registers: scope View, priority 0
->>>>>>> shortcuts
 abbrev pub registrationOf : ℕ → SurfaceShortcutRegistration
 registrationOf mask = record { «class_mask» = mask; scope = View; priority = pos 0 }
 
@@ -50,10 +47,7 @@ registrations = record {
 abbrev pub isFit : SurfaceInputPolicy → SurfaceShortcutRegistration → Bool
 isFit input g = not (eqb (g .«class_mask») 0) && isInteractive input
 
-<<<<<<< HEAD
-=======
 -- a registration with the slot of its panel
->>>>>>> shortcuts
 abbrev pub withSlot : ℕ → SurfaceShortcutRegistration → SlotShortcut
 withSlot slot g = record { slot = slot; registration = g }
 

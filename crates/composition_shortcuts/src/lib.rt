@@ -1,14 +1,9 @@
 // System shortcuts: what a panel registers, and which panel an event goes to.
-<<<<<<< HEAD
-pub mod register;
-pub mod resolve;
-=======
 mod candidate;
 mod own_view;
 pub mod register;
 pub mod resolve;
 mod scope;
->>>>>>> shortcuts
 
 ghost use Rattle.composition_shortcuts.specs.Claims.{ShortcutClaims};
 

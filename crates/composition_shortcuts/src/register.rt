@@ -33,11 +33,7 @@ pub enum OptionalRegistration {
 }
 
 impl Registrations {
-<<<<<<< HEAD
-    pub fn new() -> Self
-=======
     fn new() -> Self
->>>>>>> shortcuts
         ensures { λ r. ⌜ r ≡ packed given [] ⌝ }
     {
         let blank = SurfaceShortcutRegistration {
@@ -52,11 +48,7 @@ impl Registrations {
     }
 
     // The list of one registration.
-<<<<<<< HEAD
-    pub fn of(registration: SurfaceShortcutRegistration) -> Self
-=======
     fn of(registration: SurfaceShortcutRegistration) -> Self
->>>>>>> shortcuts
         ensures { λ r. ⌜ r ≡ packed given (registration ∷ []) ⌝ }
     {
         let mut one = Registrations::new();
@@ -66,11 +58,7 @@ impl Registrations {
     }
 
     // How many registrations the list has: all places, where its count is past them.
-<<<<<<< HEAD
-    pub fn count(self) -> usize
-=======
     fn count(self) -> usize
->>>>>>> shortcuts
         ensures { λ r. ⌜ r ≡ length (entriesOf given self) ⌝ }
     {
         let n = self.len;

@@ -1,11 +1,7 @@
 -- `best_among` meets its contract: after i turns the best is that of the first i registrations.
 use Prim.Native.Nat.{_≤_, _<_, _-_}
-<<<<<<< HEAD
-use mathlib.Core.Path.{_≡_, refl, ap, _∙_}
-=======
 use mathlib.Core.Path.{_≡_, refl, sym, _∙_}
 use mathlib.Core.Logic.{⊎-elim}
->>>>>>> shortcuts
 use native.Mathlib.Omega.{arith}
 use borrow.Author.Needs.{needs}
 use lib.ListN.{length, take}
@@ -15,11 +11,7 @@ use Rattle.composition_state.specs.Shortcuts.{shortcuts}
 use Rattle.composition_state.proofs.ShortcutLaws.{few}
 use Rattle.composition_shortcuts.specs.Greatest.{greatest}
 use Rattle.composition_shortcuts.specs.Resolve.{bestAmong}
-<<<<<<< HEAD
-use Rattle.composition_shortcuts.proofs.CandidateLaws.{take-entry}
-=======
 use Rattle.composition_shortcuts.proofs.CandidateLaws.{turn-considered, turn-skipped}
->>>>>>> shortcuts
 use Rattle.composition_shortcuts.proofs.resolve.best_among.Statement.{statement}
 use Rattle.composition_shortcuts.proofs.resolve.best_among.Tie as tie
 
@@ -42,12 +34,9 @@ mul-entry c = omega arith
 element-copy-out-entry : tie.Need-element-copy-out-entry Inv-loop μ-loop
 element-copy-out-entry c = omega arith
 
-<<<<<<< HEAD
-=======
 shares-bit-requires : tie.Need-shares-bit-requires Inv-loop μ-loop
 shares-bit-requires c κs = search needs
 
->>>>>>> shortcuts
 consider-requires : tie.Need-consider-requires Inv-loop μ-loop
 consider-requires c κs = search needs
 
@@ -59,12 +48,6 @@ loop-less c = omega arith
 
 loop-again : tie.Need-loop-again Inv-loop μ-loop
 loop-again c =
-<<<<<<< HEAD
-    let l = c .before .before .before .loop in
-    let a = c .before .before .before .before .before .args in
-    let within : l .i < length (entriesOf shortcuts (a .t3)) = omega arith in
-    (omega arith, omega arith, c .consider .ensures (take (l .i) (entriesOf shortcuts (a .t3))) (l .inv .2) ∙ ap (bestAmong (a .views) (a .surfaces) (a .view) (a .class-mask)) (take-entry (a .t3) (l .i) _ within))
-=======
     let l = c .before .before .before .before .before .loop in
     let a = c .before .before .before .before .before .before .before .args in
     let within : l .i < length (entriesOf shortcuts (a .t3)) = omega arith in (
@@ -75,7 +58,6 @@ loop-again c =
           (λ w. w .1 ∙ l .inv .2 ∙ turn-skipped (a .views) (a .surfaces) (a .view) (a .class-mask) (a .t3) (l .i) _ within (sym (c .before .shares-bit .ensures) ∙ w .0 .left))
           (c .if1 .came),
     )
->>>>>>> shortcuts
 
 returns : tie.Need-returns Inv-loop μ-loop
 returns c =
@@ -92,10 +74,7 @@ best-among-spec =
     loop-holds
     mul-entry
     element-copy-out-entry
-<<<<<<< HEAD
-=======
     shares-bit-requires
->>>>>>> shortcuts
     consider-requires
     add-i
     loop-less

@@ -1,8 +1,4 @@
 -- `Registrations::of` meets its contract: the first place of a blank table is set.
-<<<<<<< HEAD
-use mathlib.Core.Path.{refl}
-=======
->>>>>>> shortcuts
 use borrow.Author.Needs.{needs}
 use Rattle.lists.specs.Tables.{packed}
 use Rattle.composition_shortcuts.proofs.register.Registrations.of.Statement.{statement}
