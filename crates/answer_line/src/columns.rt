@@ -4,6 +4,7 @@ use answer::put::put_bytes;
 use answer::put::put_pair;
 use answer::put::put_u64;
 use composition_input::answer::CaptureList;
+use composition_reads::traces;
 use composition_reads::view_layers;
 use composition_reads::view_pointer_captures;
 use composition_state::registry::CompositionRegistry;
@@ -21,12 +22,13 @@ use registry_dump::registry::take_registry;
 use registry_dump::sink::SinkKind;
 use registry_dump::sink::sink_from;
 use registry_dump::sink::take_items;
+use registry_dump::traces::take_traces;
 use registry_dump::views::take_captures;
 use registry_dump::views::take_view_layers;
 use script_run::report::More;
 
 // A number and the space behind it.
-fn put_cell(out: &mut [u8], at: usize, n: u64) -> usize {
+pub fn put_cell(out: &mut [u8], at: usize, n: u64) -> usize {
     let end = put_u64(out, at, n);
     put_byte(out, end, b' ')
 }
@@ -37,11 +39,16 @@ fn put_revision(out: &mut [u8], at: usize, revision: u64) -> usize {
     put_bytes(out, end, b"- - ")
 }
 
-// Columns 1 to 5 of a call.
+// Columns 1 and 2 of a call.
+pub fn put_number(out: &mut [u8], calls: u64, number: u64) -> usize {
+    let end = put_cell(out, 0, calls);
+    put_cell(out, end, number)
+}
+
+// Columns 1 to 5 of a call that no panel gets.
 pub fn put_head(out: &mut [u8], calls: u64, number: u64, revision: u64) -> usize {
-    let a = put_cell(out, 0, calls);
-    let b = put_cell(out, a, number);
-    put_revision(out, b, revision)
+    let end = put_number(out, calls, number);
+    put_revision(out, end, revision)
 }
 
 // Columns 1 to 8 of a line that is no call.
@@ -52,8 +59,8 @@ pub fn put_no_call(out: &mut [u8], calls: u64, revision: u64) -> usize {
     put_bytes(out, c, b"- - -")
 }
 
-// Column 7, with the space behind it.
-fn put_handle(out: &mut [u8], at: usize, handle: OptionalHandle) -> usize {
+// A handle or none, with the space behind it.
+pub fn put_handle(out: &mut [u8], at: usize, handle: OptionalHandle) -> usize {
     match handle {
         OptionalHandle::None => put_bytes(out, at, b"- "),
         OptionalHandle::Some(h) => {
@@ -63,7 +70,7 @@ fn put_handle(out: &mut [u8], at: usize, handle: OptionalHandle) -> usize {
     }
 }
 
-fn put_items(out: &mut [u8], at: usize, items: Items) -> usize {
+pub fn put_items(out: &mut [u8], at: usize, items: Items) -> usize {
     let sink = take_items(out, sink_from(SinkKind::Column, at), items);
     sink.at
 }
@@ -93,6 +100,12 @@ fn put_layers(
     sink.at
 }
 
+fn put_traces(out: &mut [u8], at: usize, registry: CompositionRegistry) -> usize {
+    let stored = traces(registry);
+    let sink = take_traces(out, sink_from(SinkKind::Column, at), stored);
+    sink.at
+}
+
 fn put_state(out: &mut [u8], at: usize, registry: CompositionRegistry) -> usize {
     let sink = take_registry(out, sink_from(SinkKind::Dump, at), registry);
     sink.at
@@ -107,6 +120,7 @@ fn put_more(out: &mut [u8], at: usize, registry: CompositionRegistry, more: More
         More::Descriptor(d) => put_items(out, at, descriptor(Items::new(), d)),
         More::Captures(view) => put_captures(out, at, registry, view),
         More::Layers(view) => put_layers(out, at, registry, view),
+        More::Traces => put_traces(out, at, registry),
         More::Counts => put_items(out, at, counts(registry)),
         More::State => put_state(out, at, registry),
     }
@@ -120,9 +134,8 @@ pub fn put_rest(
     more: More,
     registry: CompositionRegistry,
 ) -> usize {
-    let a = put_bytes(out, at, b"- ");
-    let b = put_handle(out, a, handle);
-    put_more(out, b, registry, more)
+    let next = put_handle_column(out, at, handle);
+    put_more(out, next, registry, more)
 }
 
 fn put_pointer(out: &mut [u8], at: usize, pointer: CompositionPointerId) -> usize {
@@ -156,12 +169,16 @@ fn release_at(items: [Capture; 512], i: usize) -> Capture {
     Capture { pointer, surface }
 }
 
-// A release after another has a comma before it.
-fn put_next_release(out: &mut [u8], at: usize, i: usize, entry: Capture) -> usize {
+// An entry after another has a comma before it.
+pub fn put_separator(out: &mut [u8], at: usize, i: usize) -> usize {
     if i == 0 {
-        return put_release(out, at, entry);
+        return at;
     }
-    let next = put_byte(out, at, b',');
+    put_byte(out, at, b',')
+}
+
+fn put_next_release(out: &mut [u8], at: usize, i: usize, entry: Capture) -> usize {
+    let next = put_separator(out, at, i);
     put_release(out, next, entry)
 }
 
@@ -182,6 +199,12 @@ fn put_releases(out: &mut [u8], at: usize, list: CaptureList) -> usize {
         return put_byte(out, at, b'-');
     }
     put_each_release(out, at, list)
+}
+
+// No release, the handle, and the place of column 8.
+pub fn put_handle_column(out: &mut [u8], at: usize, handle: OptionalHandle) -> usize {
+    let next = put_bytes(out, at, b"- ");
+    put_handle(out, next, handle)
 }
 
 // Columns 6 to 8 of a call that releases captures.

@@ -3,14 +3,14 @@ use Prim.Native.Nat.{ℕ, _+_, _≤_}
 use mathlib.Core.Path.{_≡_, refl, sym, ap, _∙_}
 use mathlib.Core.Bool.{Bool, true, false, not, _||_}
 use mathlib.Core.List.{List, [], _∷_}
-use mathlib.Core.Option.{Option, none, some}
+use mathlib.Core.Option.{some}
 use native.Mathlib.Omega.{arith}
 use borrow.Author.Tests.{ne-eqb}
 use lib.Dec.{eqb}
 use lib.ListN.{length}
-use Rattle.lists.specs.Lists.{keep, first, passed}
+use Rattle.lists.specs.Lists.{keep, first, all}
 use Rattle.lists.specs.Tables.{entriesOf, pushed}
-use Rattle.lists.proofs.ListLaws.{by-test, clash, some≢none}
+use Rattle.lists.proofs.ListLaws.{by-test, clash, some≢none, keep-passes}
 use Rattle.lists.proofs.TableLaws.{entries-packed}
 use Rattle.handles.specs.Handles.{sameHandle, holdsHandle}
 use Rattle.handles.specs.Slots.{released}
@@ -24,7 +24,6 @@ use Rattle.handles.proofs.HandleLaws.{handles}
 use Rattle.maps.specs.Captures.{captures, captureKey}
 use Rattle.maps.specs.Keys.{pointerKey, keySame}
 use Rattle.maps.specs.MapTables.{keysRise}
-use Rattle.maps.specs.declared.captures.Capture.{Capture}
 use Rattle.maps.specs.declared.keys.CompositionPointerId.{CompositionPointerId}
 use Rattle.maps.proofs.ClaimLaws as map
 use Rattle.composition_state.specs.declared.error.CompositionError.{CompositionError}
@@ -36,14 +35,15 @@ use Rattle.composition_state.specs.declared.surface.SurfaceTable.{SurfaceTable}
 use Rattle.composition_state.specs.declared.view.ViewRecord.{ViewRecord}
 use Rattle.composition_state.specs.Damage.{isSound}
 use Rattle.composition_state.specs.Errors.{numberOf, thenRefusal, refusalIf, statusRefusal}
-use Rattle.composition_state.specs.Registry.{withWindows, withViews, withRevision, advanced, settled}
+use Rattle.composition_state.specs.Layers.{layers}
+use Rattle.composition_state.specs.Registry.{withWindows, withViews, advanced, settled}
 use Rattle.composition_state.specs.Surfaces.{surfaceStatus}
 use Rattle.composition_state.specs.Views.{viewStatus, viewsWith}
 use Rattle.composition_state.proofs.SettleLaws.{refused-is, accepted-is}
 use Rattle.composition_panels.specs.Windows.{exhaustedRefusal, closeViewRefusal, closeView, closeWindowRefusal, closeWindow}
 use Rattle.composition_close.specs.declared.shutdown.Closing.{Closing}
 use Rattle.composition_close.specs.Reports.{closeReports}
-use Rattle.composition_close.specs.Detach.{ownView, isOnSurface, hadCapture, detachedView, closeReport}
+use Rattle.composition_close.specs.Detach.{ownView, isOnSurface, hadCapture, detachedView}
 use Rattle.composition_close.specs.Close.{closeRefusal, detached, freed, closedPanel, closeSettled, closeAfter, closeSurface}
 use Rattle.composition_close.specs.Shutdown.{raised, layerClosed, viewClosed, windowClosed, shutdownRefusal, shutDown, shutdownAfter, shutdownOf}
 use Rattle.composition_close.specs.Claims.{CloseSettles, Holds, CloseClaims}
@@ -133,6 +133,16 @@ module _ (r : CompositionRegistry) (h : GenerationalHandle) where
   unfolding closeSettled
   raised-is q = settled-raises (exhaustedRefusal slot) (detached h r) (closedPanel h r) q
 
+-- ---- what 22 leaves
+detached-alone : (r : CompositionRegistry) (h : GenerationalHandle) → detached h r ≡ withViews (detached h r .views) r
+unfolding detached
+detached-alone r h = refl
+
+detached-out : (surfaces : SurfaceTable) (v : ViewRecord) (h : GenerationalHandle) → all (λ at. not (sameHandle h at)) (entriesOf layers (detachedView surfaces v h .surfaces)) ≡ true
+unfolding detachedView
+detached-out surfaces v h =
+    rw (entries-packed layers (keep (λ at. not (sameHandle h at)) (entriesOf layers (v .surfaces)))) (keep-passes (λ at. not (sameHandle h at)) (entriesOf layers (v .surfaces)))
+
 -- ---- a step of a shutdown
 step-after : (w : Closing) (h : GenerationalHandle) (o : Outcome) → closeAfter o (w .registry) h .outcome ≡ Accepted
     → layerClosed h w ≡ record { registry = closeAfter o (w .registry) h .registry; reports = pushed closeReports (w .reports) (closeAfter o (w .registry) h .report) }
@@ -196,6 +206,8 @@ entry-remains surfaces v a b p rises other q =
 pub claims : CloseClaims
 claims = record {
   close = closes;
+  detached-alone = detached-alone;
+  detached-out = detached-out;
   shutdown-refused = shutdown-refused;
   panel-step = panel-step;
   view-step = view-step;

@@ -1,16 +1,16 @@
 -- What holds of these calls beyond their equations.
 use Prim.Native.Nat.{_+_}
 use mathlib.Core.Path.{_≡_}
-use mathlib.Core.Bool.{true, false}
+use mathlib.Core.Bool.{true, false, not}
 use mathlib.Core.Option.{some}
-use Rattle.lists.specs.Tables.{pushed}
+use Rattle.lists.specs.Lists.{all}
+use Rattle.lists.specs.Tables.{entriesOf, pushed}
 use Rattle.handles.specs.Handles.{sameHandle}
 use Rattle.handles.specs.declared.handle.GenerationalHandle.{GenerationalHandle}
 use Rattle.handles.specs.declared.handle.OptionalHandle.the-variants.{None}
 use Rattle.maps.specs.Captures.{captures, captureKey}
 use Rattle.maps.specs.Keys.{pointerKey}
 use Rattle.maps.specs.MapTables.{found, keysRise}
-use Rattle.maps.specs.declared.captures.Capture.{Capture}
 use Rattle.maps.specs.declared.keys.CompositionPointerId.{CompositionPointerId}
 use Rattle.composition_state.specs.declared.error.CompositionError.{CompositionError}
 use Rattle.composition_state.specs.declared.error.CompositionError.the-variants.{RevisionExhausted, GenerationExhausted}
@@ -18,6 +18,8 @@ use Rattle.composition_state.specs.declared.error.Outcome.the-variants.{Accepte
 use Rattle.composition_state.specs.declared.registry.CompositionRegistry.{CompositionRegistry}
 use Rattle.composition_state.specs.declared.surface.SurfaceTable.{SurfaceTable}
 use Rattle.composition_state.specs.declared.view.ViewRecord.{ViewRecord}
+use Rattle.composition_state.specs.Layers.{layers}
+use Rattle.composition_state.specs.Registry.{withViews}
 use Rattle.composition_panels.specs.Windows.{closeView, closeWindow}
 use Rattle.composition_close.specs.declared.shutdown.Closing.{Closing}
 use Rattle.composition_close.specs.Reports.{closeReports}
@@ -41,6 +43,9 @@ Holds v p h = found captures captureKey (pointerKey p) (v .«pointer_captures»)
 
 pub record CloseClaims : Type 0 where
   pub close : (r : CompositionRegistry) (h : GenerationalHandle) → CloseSettles r h
+  -- what 22 leaves differs from what came in the views alone, and there the panel is no layer of its own view
+  pub detached-alone : (r : CompositionRegistry) (h : GenerationalHandle) → detached h r ≡ withViews (detached h r .views) r
+  pub detached-out : (surfaces : SurfaceTable) (v : ViewRecord) (h : GenerationalHandle) → all (λ at. not (sameHandle h at)) (entriesOf layers (detachedView surfaces v h .surfaces)) ≡ true
   -- every refusal of a shutdown leaves the registry as it came
   pub shutdown-refused : (r : CompositionRegistry) (e : CompositionError) → shutdownOf r .outcome ≡ Refused e → shutdownOf r .registry ≡ r
   -- each step of a shutdown is what the accepted call leaves and reports

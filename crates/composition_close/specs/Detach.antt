@@ -1,7 +1,7 @@
 -- A panel leaves its view: document 01, Panels, close; Layers; and the counter table's last row.
 use Prim.Native.Nat.{ℕ}
-use mathlib.Core.Bool.{Bool, true, false, cond, not, _||_}
-use mathlib.Core.List.{List, reverse}
+use mathlib.Core.Bool.{Bool, false, cond, not, _||_}
+use mathlib.Core.List.{reverse}
 use mathlib.Core.Option.{Option, none, some}
 use lib.Dec.{eqb}
 use lib.ListN.{length}

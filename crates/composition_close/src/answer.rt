@@ -129,17 +129,6 @@ impl CloseReports {
             len: 0,
         }
     }
-
-    pub fn push(self, report: SurfaceCloseReport) -> Self
-        requires { ⌜ self .len < 256 ⌝ }
-        ensures { λ r. ⌜ r ≡ pushed closeReports self report ⌝ }
-    {
-        let at = self.len;
-        let mut next = self;
-        next.items[at] = report;
-        next.len = at + 1;
-        next
-    }
 }
 
 impl CompositionShutdownReport {

@@ -2,13 +2,15 @@
 ghost use mathlib.Core.Path.{_≡_};
 ghost use mathlib.Core.List.{reverse};
 ghost use Prim.Native.Nat.{_+_, _≤_, _<_};
-ghost use Rattle.lists.specs.Tables.{entriesOf};
+ghost use Rattle.lists.specs.Tables.{entriesOf, pushed};
 ghost use Rattle.handles.specs.Slots.{usedPlaces};
 ghost use Rattle.composition_state.specs.Layers.{layers};
+ghost use Rattle.composition_close.specs.Reports.{closeReports};
 ghost use Rattle.composition_close.specs.Shutdown.{isOver, shutdownRefusal, layerClosed, layersClosed, viewClosed, viewClosedAt, viewsClosed, windowClosedAt, windowsClosed, shutDown, shutdownOf};
 use crate::answer::CloseReports;
 use crate::answer::CompositionShutdownReport;
 use crate::answer::Shutdown;
+use crate::answer::SurfaceCloseReport;
 use crate::close::detach;
 use crate::close::free_slot;
 use crate::detach::close_report;
@@ -27,6 +29,19 @@ use lists::both;
 pub struct Closing {
     pub registry: CompositionRegistry,
     pub reports: CloseReports,
+}
+
+impl CloseReports {
+    fn push(self, report: SurfaceCloseReport) -> Self
+        requires { ⌜ self .len < 256 ⌝ }
+        ensures { λ r. ⌜ r ≡ pushed closeReports self report ⌝ }
+    {
+        let at = self.len;
+        let mut next = self;
+        next.items[at] = report;
+        next.len = at + 1;
+        next
+    }
 }
 
 // Whether the revision has no room for one step each.

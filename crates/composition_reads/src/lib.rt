@@ -11,6 +11,7 @@ use composition_state::layers::Layers;
 use composition_state::registry::CompositionRegistry;
 use composition_state::surface::SurfaceDescriptor;
 use composition_state::surface::SurfaceTable;
+use composition_state::trace::Traces;
 use composition_state::view::ViewInputState;
 use geometry::metrics::ViewMetrics;
 use handles::handle::GenerationalHandle;
@@ -198,6 +199,13 @@ pub fn revision(registry: CompositionRegistry) -> u64
     ensures { λ r. ⌜ r ≡ registry .revision ⌝ }
 {
     registry.revision
+}
+
+// The last arbitrations, oldest first.
+pub fn traces(registry: CompositionRegistry) -> Traces
+    ensures { λ r. ⌜ r ≡ registry .traces ⌝ }
+{
+    registry.traces
 }
 
 pub fn live_window_count(registry: CompositionRegistry) -> usize

@@ -94,7 +94,8 @@ fn take_hits(out: &mut [u8], sink: Sink, hits: Hits) -> Sink {
     next
 }
 
-fn delivery_at(items: [InputDelivery; 16], i: usize) -> InputDelivery {
+// Past the end of the table a read is a blank.
+pub fn delivery_at(items: [InputDelivery; 16], i: usize) -> InputDelivery {
     if i < 16 {
         return items[i];
     }

@@ -21,6 +21,7 @@ pub enum More {
     Descriptor(SurfaceDescriptor),
     Captures(GenerationalHandle),
     Layers(GenerationalHandle),
+    Traces,
     Counts,
     State,
 }

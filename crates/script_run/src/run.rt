@@ -30,6 +30,8 @@ use composition_reads::view_layers;
 use composition_reads::view_metrics;
 use composition_reads::view_pointer_captures;
 use composition_reads::view_window;
+use composition_shortcuts::register::Registrations;
+use composition_shortcuts::register::register_surface_system_shortcut_set;
 use composition_state::error::Outcome;
 use composition_state::registry::CompositionRegistry;
 use handles::handle::GenerationalHandle;
@@ -43,6 +45,7 @@ use script_calls::calls::PointerArguments;
 use script_calls::calls::PolicyArguments;
 use script_calls::calls::ReadCall;
 use script_calls::calls::Start;
+use script_fields::list_fields::RegistrationsField;
 
 // A refused start leaves the old registry.
 pub fn start(registry: CompositionRegistry, given: Start) -> Report {
@@ -149,6 +152,26 @@ pub fn run_input(registry: CompositionRegistry, call: InputCall) -> Report {
     }
 }
 
+// The list of the line is the call's.
+pub fn run_register(
+    registry: CompositionRegistry,
+    given: HandleArguments,
+    listed: RegistrationsField,
+) -> Report {
+    let surface = given.handle;
+    let items = listed.items;
+    let registrations = Registrations {
+        items,
+        len: listed.len,
+    };
+    changed_report(register_surface_system_shortcut_set(
+        registry,
+        surface,
+        registrations,
+        given.revision,
+    ))
+}
+
 fn read_window(registry: CompositionRegistry, view: GenerationalHandle) -> Report {
     let read = view_window(registry, view);
     let outcome = read.outcome;
@@ -202,6 +225,7 @@ pub fn run_read(registry: CompositionRegistry, call: ReadCall) -> Report {
         ReadCall::ViewPointerCaptures(view) => read_captures(registry, view),
         ReadCall::SurfaceDescriptor(surface) => read_descriptor(registry, surface),
         ReadCall::ViewLayers(view) => read_layers(registry, view),
+        ReadCall::Traces => read_report(Outcome::Accepted, More::Traces, registry),
         ReadCall::Counts => read_report(Outcome::Accepted, More::Counts, registry),
         ReadCall::State => read_report(Outcome::Accepted, More::State, registry),
     }

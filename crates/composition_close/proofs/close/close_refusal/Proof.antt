@@ -22,7 +22,9 @@ then-requires-2 : tie.Need-then-requires-2
 then-requires-2 c κs = search needs
 
 returns : tie.Need-returns
-returns c = rw (c .then2 .ensures, c .before .then .ensures, c .before .before .damage .ensures, c .before .before .before .refusal2 .ensures, c .before .before .before .before .refusal .ensures, c .before .before .before .before .before .before .descriptor .ensures)
+returns c =
+    let c5 = c .before .before .before .before .before in
+    rw (c .then2 .ensures, c .before .then .ensures, c .before .before .damage .ensures, c .before .before .before .refusal2 .ensures, c .before .before .before .before .refusal .ensures, c5 .before .descriptor .ensures)
 
 pub close-refusal-spec : {M : Type 1} → statement M
 close-refusal-spec =

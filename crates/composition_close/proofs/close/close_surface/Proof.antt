@@ -1,6 +1,6 @@
 -- `close_surface` meets its contract, by the answer of its checks: refused, or the settled change with its report.
 use mathlib.Core.Path.{_≡_, sym, _∙_}
-use Rattle.composition_state.specs.declared.error.Outcome.the-variants.{Accepted, Refused}
+use Rattle.composition_state.specs.declared.error.Outcome.the-variants.{Accepted}
 use Rattle.composition_close.specs.Close.{closeRefusal, closeSettled, closeSurface}
 use borrow.Author.Needs.{needs}
 use Rattle.composition_close.proofs.close.close_surface.Statement.{statement}
@@ -46,8 +46,11 @@ blank-requires c κs = search needs
 
 returns : tie.Need-returns
 unfolding closeSurface
-returns c = let a = c .before .before .before .before .before .before .before .before .before .before .before .before .before .before .args in
-    let checked : closeRefusal (a .registry) (a .surface) ≡ Accepted = sym (c .before .before .before .before .before .before .before .before .before .before .before .before .before .close-refusal .ensures) ∙ c .before .before .before .before .before .before .before .before .before .before .before .enum-told .given .1 in
+returns c =
+    let c5 = c .before .before .before .before .before in
+    let c10 = c5 .before .before .before .before .before in
+    let a = c10 .before .before .before .before .args in
+    let checked : closeRefusal (a .registry) (a .surface) ≡ Accepted = sym (c10 .before .before .before .close-refusal .ensures) ∙ c10 .before .enum-told .given .1 in
     rw (checked, c .closed-with .ensures, c .before .close-report .ensures, changed-is (c .before .before .before))
 
 returns-2 : tie.Need-returns-2

@@ -27,15 +27,17 @@ restored-focus-requires c κs = search needs
 
 returns : tie.Need-returns
 unfolding closeReport
-returns c = rw (
-  c .restored-focus .ensures,
-  c .before .of .ensures,
-  c .before .before .holds2 .ensures,
-  c .before .before .before .had-capture .ensures,
-  c .before .before .before .before .holds .ensures,
-  c .before .before .before .before .before .«record» .ensures,
-  c .before .before .before .before .before .before .before .descriptor .ensures,
-)
+returns c =
+    let c5 = c .before .before .before .before .before in
+    rw (
+      c .restored-focus .ensures,
+      c .before .of .ensures,
+      c .before .before .holds2 .ensures,
+      c .before .before .before .had-capture .ensures,
+      c .before .before .before .before .holds .ensures,
+      c5 .«record» .ensures,
+      c5 .before .before .descriptor .ensures,
+    )
 
 pub close-report-spec : {M : Type 1} → statement M
 close-report-spec =

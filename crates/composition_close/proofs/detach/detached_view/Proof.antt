@@ -33,17 +33,19 @@ choose-requires-3 c κs = search needs
 
 returns : tie.Need-returns
 unfolding detachedView
-returns c = rw (
-  c .choose3 .ensures,
-  c .before .holds2 .ensures,
-  c .before .before .retain .ensures,
-  c .before .before .before .choose2 .ensures,
-  c .before .before .before .before .had-capture .ensures,
-  c .before .before .before .before .before .choose .ensures,
-  c .before .before .before .before .before .before .holds .ensures,
-  c .before .before .before .before .before .before .before .restored-focus .ensures,
-  c .before .before .before .before .before .before .before .before .remove .ensures,
-)
+returns c =
+    let c5 = c .before .before .before .before .before in
+    rw (
+      c .choose3 .ensures,
+      c .before .holds2 .ensures,
+      c .before .before .retain .ensures,
+      c .before .before .before .choose2 .ensures,
+      c .before .before .before .before .had-capture .ensures,
+      c5 .choose .ensures,
+      c5 .before .holds .ensures,
+      c5 .before .before .restored-focus .ensures,
+      c5 .before .before .before .remove .ensures,
+    )
 
 pub detached-view-spec : {M : Type 1} → statement M
 detached-view-spec =

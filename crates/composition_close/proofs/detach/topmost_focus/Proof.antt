@@ -38,8 +38,10 @@ takes-focus-requires c κs = search needs
 
 returns : tie.Need-returns Inv-loop μ-loop
 unfolding topmost
-returns c = let l = c .before .before .before .before .loop in
-    let a = c .before .before .before .before .before .before .args in
+returns c =
+    let c5 = c .before .before .before .before .before in
+    let l = c .before .before .before .before .loop in
+    let a = c5 .before .args in
     sym (ap optional (down-here layers (a .t2) (takesFocus (a .surfaces)) (l .i) (l .i - 1) _ (omega arith) (omega arith) (l .inv .3) (sym (c .before .takes-focus .ensures) ∙ c .if1 .taken)))
 
 loop-less : tie.Need-loop-less Inv-loop μ-loop

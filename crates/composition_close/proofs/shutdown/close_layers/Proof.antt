@@ -1,12 +1,11 @@
 -- `close_layers` meets its contract: what is still below makes of the work so far what the whole makes of its start.
 use Prim.Native.Nat.{_+_, _-_, _≤_}
-use mathlib.Core.Path.{_≡_, ap, _∙_}
+use mathlib.Core.Path.{_≡_}
 use native.Mathlib.Omega.{arith}
 use lib.ListN.{length}
 use Rattle.lists.specs.Tables.{entriesOf}
 use Rattle.composition_state.specs.Layers.{layers}
 use Rattle.composition_state.proofs.LayerLaws.{few}
-use Rattle.composition_close.specs.declared.shutdown.Closing.{Closing}
 use Rattle.composition_close.proofs.ShutdownLaws.{ClosedDown, closed-start, closed-next, closed-end, closed-count}
 use borrow.Author.Needs.{needs}
 use Rattle.composition_close.proofs.shutdown.close_layers.Statement.{statement}

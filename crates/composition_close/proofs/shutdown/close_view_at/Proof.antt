@@ -24,16 +24,17 @@ release-view-requires c κs = search needs
 
 returns : tie.Need-returns
 unfolding wholeViewClosed
-returns c = (
-  rw (
-    sym (ap (λ (s : Slot). s .filled) (c .before .before .before .before .before .before .before .slot-at .ensures)) ∙ c .before .before .before .before .before .before .if1 .taken,
-    c .release-view .ensures,
-    c .before .before .before .close-layers .ensures .0,
-    c .before .before .before .before .before .«record» .ensures,
-    c .before .before .before .before .before .before .before .slot-at .ensures,
-  ),
-  c .before .before .before .close-layers .ensures .1,
-)
+returns c =
+    let c5 = c .before .before .before .before .before in (
+      rw (
+        sym (ap (λ (s : Slot). s .filled) (c5 .before .before .slot-at .ensures)) ∙ c5 .before .if1 .taken,
+        c .release-view .ensures,
+        c .before .before .before .close-layers .ensures .0,
+        c5 .«record» .ensures,
+        c5 .before .before .slot-at .ensures,
+      ),
+      c .before .before .before .close-layers .ensures .1,
+    )
 
 returns-2 : tie.Need-returns-2
 returns-2 c = (rw (sym (ap (λ (s : Slot). s .filled) (c .before .slot-at .ensures)) ∙ c .if1 .left), omega arith)

@@ -23,7 +23,9 @@ advance-requires c κs = search needs
 
 returns : tie.Need-returns
 unfolding windowClosed
-returns c = rw (sym (ap (λ (s : Slot). s .filled) (c .before .before .before .before .before .before .slot-at .ensures)) ∙ c .before .before .before .before .before .if1 .taken, c .before .advance .ensures, c .before .before .with-windows .ensures, c .before .before .before .before .release .ensures, c .before .before .before .before .before .before .slot-at .ensures)
+returns c =
+    let c5 = c .before .before .before .before .before in
+    rw (sym (ap (λ (s : Slot). s .filled) (c5 .before .slot-at .ensures)) ∙ c5 .if1 .taken, c .before .advance .ensures, c .before .before .with-windows .ensures, c .before .before .before .before .release .ensures, c5 .before .slot-at .ensures)
 
 returns-2 : tie.Need-returns-2
 returns-2 c = rw (sym (ap (λ (s : Slot). s .filled) (c .before .slot-at .ensures)) ∙ c .if1 .left)

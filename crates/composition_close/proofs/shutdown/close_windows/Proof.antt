@@ -1,6 +1,6 @@
 -- `close_windows` meets its contract: after i turns the windows of the first i slots are closed.
 use Prim.Native.Nat.{_≤_, _-_}
-use mathlib.Core.Path.{_≡_, sym, ap, _∙_}
+use mathlib.Core.Path.{_≡_, sym, _∙_}
 use native.Mathlib.Omega.{arith}
 use Rattle.lists.specs.Below.{iterBelow}
 use Rattle.lists.proofs.BelowLaws.{iter-none, iter-more}

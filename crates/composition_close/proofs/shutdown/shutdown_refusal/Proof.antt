@@ -37,7 +37,10 @@ then-requires-2 : tie.Need-then-requires-2
 then-requires-2 c κs = search needs
 
 returns : tie.Need-returns
-returns c = rw (c .then2 .ensures, c .before .then .ensures, c .before .before .damage .ensures, c .before .before .before .refuse-if2 .ensures, c .before .before .before .before .refuse-if .ensures, c .before .before .before .before .before .both2 .ensures, c .before .before .before .before .before .before .both .ensures, c .before .before .before .before .before .before .before .preflight-release3 .ensures, c .before .before .before .before .before .before .before .before .preflight-release2 .ensures, c .before .before .before .before .before .before .before .before .before .preflight-release .ensures, c .before .before .before .before .before .before .before .before .before .before .is-over .ensures)
+returns c =
+    let c5 = c .before .before .before .before .before in
+    let c10 = c5 .before .before .before .before .before in
+    rw (c .then2 .ensures, c .before .then .ensures, c .before .before .damage .ensures, c .before .before .before .refuse-if2 .ensures, c .before .before .before .before .refuse-if .ensures, c .before .before .before .before .before .both2 .ensures, c .before .before .before .before .before .before .both .ensures, c5 .before .before .preflight-release3 .ensures, c5 .before .before .before .preflight-release2 .ensures, c5 .before .before .before .before .preflight-release .ensures, c10 .is-over .ensures)
 
 pub shutdown-refusal-spec : {M : Type 1} → statement M
 shutdown-refusal-spec =

@@ -1,5 +1,4 @@
 -- `SurfaceReleases::of` meets its contract: three pushes, by the cases of what the panel had.
-use mathlib.Core.Path.{_≡_, ap, _∙_}
 use Rattle.composition_close.proofs.ReportLaws.{none-room, one-room, two-room, listed}
 use borrow.Author.Needs.{needs}
 use Rattle.composition_close.proofs.answer.SurfaceReleases.of.Statement.{statement}
