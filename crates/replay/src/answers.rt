@@ -1,4 +1,5 @@
 // The session of a script, and the answer to each of its lines.
+ghost use Prim.Native.Nat.{_≤_};
 use answer::put::put_byte;
 use answer_line::arbitration::put_arbitrated;
 use answer_line::closing::put_closed;
@@ -225,7 +226,9 @@ fn answer_closing(
 }
 
 // A test needs no more than 32 numbers, so a longer buffer is lent in part.
-fn lent(length: u64) -> usize {
+fn lent(length: u64) -> usize
+    ensures { λ r. ⌜ r ≤ 32 ⌝ }
+{
     if length < 32 {
         return length as usize;
     }

@@ -52,6 +52,55 @@ fn if_pointer(call: Call, fields: Fields) -> Call
     call_if(call, fields.count, 6, read.fits)
 }
 
+// The same for the calls of each group. The match below then holds no value of the whole enum, whose size makes its check long.
+fn panel_if_empty(asked: PanelCall, fields: Fields) -> Call
+    ensures { λ r. ⌜ r ≡ ifEmpty (Call.Panel asked) fields ⌝ }
+{
+    if_empty(Call::Panel(asked), fields)
+}
+
+fn panel_if_handle(asked: PanelCall, fields: Fields) -> Call
+    ensures { λ r. ⌜ r ≡ ifHandle (Call.Panel asked) fields ⌝ }
+{
+    if_handle(Call::Panel(asked), fields)
+}
+
+fn input_if_revision(asked: InputCall, fields: Fields) -> Call
+    ensures { λ r. ⌜ r ≡ ifRevision (Call.Input asked) fields ⌝ }
+{
+    if_revision(Call::Input(asked), fields)
+}
+
+fn input_if_pointer(asked: InputCall, fields: Fields) -> Call
+    ensures { λ r. ⌜ r ≡ ifPointer (Call.Input asked) fields ⌝ }
+{
+    if_pointer(Call::Input(asked), fields)
+}
+
+fn close_if_empty(asked: CloseCall, fields: Fields) -> Call
+    ensures { λ r. ⌜ r ≡ ifEmpty (Call.Close asked) fields ⌝ }
+{
+    if_empty(Call::Close(asked), fields)
+}
+
+fn close_if_handle(asked: CloseCall, fields: Fields) -> Call
+    ensures { λ r. ⌜ r ≡ ifHandle (Call.Close asked) fields ⌝ }
+{
+    if_handle(Call::Close(asked), fields)
+}
+
+fn read_if_empty(asked: ReadCall, fields: Fields) -> Call
+    ensures { λ r. ⌜ r ≡ ifEmpty (Call.Read asked) fields ⌝ }
+{
+    if_empty(Call::Read(asked), fields)
+}
+
+fn read_if_handle(asked: ReadCall, fields: Fields) -> Call
+    ensures { λ r. ⌜ r ≡ ifHandle (Call.Read asked) fields ⌝ }
+{
+    if_handle(Call::Read(asked), fields)
+}
+
 fn first_handle(fields: Fields) -> GenerationalHandle
     ensures { λ r. ⌜ r ≡ handleAt fields 0 .handle ⌝ }
 {
@@ -86,45 +135,42 @@ fn read_fields(verb: Verb, fields: Fields) -> Call
         Verb::New => crate::arguments::new_call(fields),
         Verb::NewAt => crate::arguments::new_at_call(fields),
         Verb::Router => Call::NoCall,
-        Verb::CreateWindow => if_empty(Call::Panel(PanelCall::CreateWindow), fields),
-        Verb::CloseWindow => if_handle(Call::Panel(PanelCall::CloseWindow(h)), fields),
-        Verb::CreateView => if_handle(Call::Panel(PanelCall::CreateView(h)), fields),
+        Verb::CreateWindow => panel_if_empty(PanelCall::CreateWindow, fields),
+        Verb::CloseWindow => panel_if_handle(PanelCall::CloseWindow(h), fields),
+        Verb::CreateView => panel_if_handle(PanelCall::CreateView(h), fields),
         Verb::UpdateViewMetrics => crate::arguments::metrics(fields),
-        Verb::CloseView => if_handle(Call::Panel(PanelCall::CloseView(h)), fields),
+        Verb::CloseView => panel_if_handle(PanelCall::CloseView(h), fields),
         Verb::AttachSurface => crate::arguments::attach(fields),
         Verb::UpdateSurfaceGeometry => crate::arguments::shape(fields),
         Verb::UpdateSurfaceInputPolicy => crate::arguments::policy(fields),
         Verb::RegisterSurfaceSystemShortcutSet => crate::arguments::register(fields),
         Verb::SetFocus => crate::arguments::focus(fields),
-        Verb::CapturePointer => if_revision(Call::Input(InputCall::CapturePointer(a)), fields),
-        Verb::CapturePointerFor => if_pointer(Call::Input(InputCall::CapturePointerFor(p)), fields),
-        Verb::ReleasePointer => if_revision(Call::Input(InputCall::ReleasePointer(a)), fields),
-        Verb::ReleasePointerFor => if_pointer(Call::Input(InputCall::ReleasePointerFor(p)), fields),
+        Verb::CapturePointer => input_if_revision(InputCall::CapturePointer(a), fields),
+        Verb::CapturePointerFor => input_if_pointer(InputCall::CapturePointerFor(p), fields),
+        Verb::ReleasePointer => input_if_revision(InputCall::ReleasePointer(a), fields),
+        Verb::ReleasePointerFor => input_if_pointer(InputCall::ReleasePointerFor(p), fields),
         Verb::ReleaseDevicePointerCaptures => crate::arguments::device(fields),
-        Verb::BeginIme => if_revision(Call::Input(InputCall::BeginIme(a)), fields),
-        Verb::EndIme => if_revision(Call::Input(InputCall::EndIme(a)), fields),
-        Verb::SuspendViewInput => if_revision(Call::Input(InputCall::SuspendViewInput(a)), fields),
+        Verb::BeginIme => input_if_revision(InputCall::BeginIme(a), fields),
+        Verb::EndIme => input_if_revision(InputCall::EndIme(a), fields),
+        Verb::SuspendViewInput => input_if_revision(InputCall::SuspendViewInput(a), fields),
         Verb::Arbitrate => crate::arguments::arbitrate(fields),
-        Verb::CloseSurface => if_handle(Call::Close(CloseCall::CloseSurface(h)), fields),
-        Verb::Shutdown => if_empty(Call::Close(CloseCall::Shutdown), fields),
+        Verb::CloseSurface => close_if_handle(CloseCall::CloseSurface(h), fields),
+        Verb::Shutdown => close_if_empty(CloseCall::Shutdown, fields),
         Verb::HitTestStack => crate::arguments::hit_test(fields),
         Verb::InversePoint => crate::arguments::inverse_point(fields),
         Verb::Route => Call::NoCall,
         Verb::ReleaseSurface => Call::NoCall,
         Verb::ReleaseAll => Call::NoCall,
-        Verb::ViewWindow => if_handle(Call::Read(ReadCall::ViewWindow(h)), fields),
-        Verb::ViewMetrics => if_handle(Call::Read(ReadCall::ViewMetrics(h)), fields),
-        Verb::ViewInputState => if_handle(Call::Read(ReadCall::ViewInputState(h)), fields),
-        Verb::ViewPointerCaptures => if_handle(
-            Call::Read(ReadCall::ViewPointerCaptures(h)),
-            fields,
-        ),
-        Verb::SurfaceDescriptor => if_handle(Call::Read(ReadCall::SurfaceDescriptor(h)), fields),
-        Verb::ViewLayers => if_handle(Call::Read(ReadCall::ViewLayers(h)), fields),
-        Verb::Traces => if_empty(Call::Read(ReadCall::Traces), fields),
-        Verb::Counts => if_empty(Call::Read(ReadCall::Counts), fields),
+        Verb::ViewWindow => read_if_handle(ReadCall::ViewWindow(h), fields),
+        Verb::ViewMetrics => read_if_handle(ReadCall::ViewMetrics(h), fields),
+        Verb::ViewInputState => read_if_handle(ReadCall::ViewInputState(h), fields),
+        Verb::ViewPointerCaptures => read_if_handle(ReadCall::ViewPointerCaptures(h), fields),
+        Verb::SurfaceDescriptor => read_if_handle(ReadCall::SurfaceDescriptor(h), fields),
+        Verb::ViewLayers => read_if_handle(ReadCall::ViewLayers(h), fields),
+        Verb::Traces => read_if_empty(ReadCall::Traces, fields),
+        Verb::Counts => read_if_empty(ReadCall::Counts, fields),
         Verb::ActiveBindingCount => Call::NoCall,
-        Verb::State => if_empty(Call::Read(ReadCall::State), fields),
+        Verb::State => read_if_empty(ReadCall::State, fields),
         Verb::RouterState => Call::NoCall,
     }
 }

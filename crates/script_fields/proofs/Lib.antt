@@ -1,1 +1,2 @@
 pub mod ListFieldLaws
+pub mod ListClaimLaws

@@ -43,7 +43,7 @@ long-hits t {vs} p = sym (length-map (t .items) _) ∙ LL.owed H.the-type H′.t
 pub long-list : (t : RegistrationsField) {vs : List Val} → Is R.the-row t vs → length (t .items) ≡ 64
 long-list t {vs} p = sym (length-map (t .items) _) ∙ LL.owed R.the-type R′.the-laws t vs p .0 .1 .0 .1
 
-length-below : (n : ℕ) → length (below n) ≡ n
+pub length-below : (n : ℕ) → length (below n) ≡ n
 unfolding below
 length-below zero = refl
 length-below (suc n) = length-append (below n) (n ∷ []) ∙ simp (length-below n) (omega arith)

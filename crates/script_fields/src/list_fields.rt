@@ -3,6 +3,7 @@ ghost use mathlib.Core.Path.{_≡_};
 ghost use Prim.Native.Nat.{_+_};
 ghost use mathlib.Core.Bool.{_&&_};
 ghost use lib.ListN.{set};
+ghost use Rattle.script_fields.specs.ListClaims.{ListClaims};
 ghost use Rattle.script_fields.specs.ListFields.{i16At, scopeOf, scopeAt, registrationAt, noRegistrations, hitsFrom, hitsAt, registrationsFrom, registrationsAt};
 use crate::groups::handle_field;
 use crate::groups::u64_field;
@@ -192,3 +193,8 @@ pub fn registrations_field(fields: Fields, i: u8) -> RegistrationsField
         fits: both(counted.fits, read.fits),
     }
 }
+
+// The claims about the two lists, as a theorem that the check names.
+pub fn list_claims()
+    ensures { λ _. ⌜ ListClaims ⌝ }
+{}

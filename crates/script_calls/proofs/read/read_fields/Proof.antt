@@ -39,20 +39,20 @@ enum-told-5 c = search needs
 enum-told-6 : tie.Need-enum-told-6
 enum-told-6 c = search needs
 
-if-empty-requires : tie.Need-if-empty-requires
-if-empty-requires c κs = search needs
+panel-if-empty-requires : tie.Need-panel-if-empty-requires
+panel-if-empty-requires c κs = search needs
 
 enum-told-7 : tie.Need-enum-told-7
 enum-told-7 c = search needs
 
-if-handle-requires : tie.Need-if-handle-requires
-if-handle-requires c κs = search needs
+panel-if-handle-requires : tie.Need-panel-if-handle-requires
+panel-if-handle-requires c κs = search needs
 
 enum-told-8 : tie.Need-enum-told-8
 enum-told-8 c = search needs
 
-if-handle-requires-2 : tie.Need-if-handle-requires-2
-if-handle-requires-2 c κs = search needs
+panel-if-handle-requires-2 : tie.Need-panel-if-handle-requires-2
+panel-if-handle-requires-2 c κs = search needs
 
 enum-told-9 : tie.Need-enum-told-9
 enum-told-9 c = search needs
@@ -63,8 +63,8 @@ metrics-requires c κs = search needs
 enum-told-10 : tie.Need-enum-told-10
 enum-told-10 c = search needs
 
-if-handle-requires-3 : tie.Need-if-handle-requires-3
-if-handle-requires-3 c κs = search needs
+panel-if-handle-requires-3 : tie.Need-panel-if-handle-requires-3
+panel-if-handle-requires-3 c κs = search needs
 
 enum-told-11 : tie.Need-enum-told-11
 enum-told-11 c = search needs
@@ -99,26 +99,26 @@ focus-requires c κs = search needs
 enum-told-16 : tie.Need-enum-told-16
 enum-told-16 c = search needs
 
-if-revision-requires : tie.Need-if-revision-requires
-if-revision-requires c κs = search needs
+input-if-revision-requires : tie.Need-input-if-revision-requires
+input-if-revision-requires c κs = search needs
 
 enum-told-17 : tie.Need-enum-told-17
 enum-told-17 c = search needs
 
-if-pointer-requires : tie.Need-if-pointer-requires
-if-pointer-requires c κs = search needs
+input-if-pointer-requires : tie.Need-input-if-pointer-requires
+input-if-pointer-requires c κs = search needs
 
 enum-told-18 : tie.Need-enum-told-18
 enum-told-18 c = search needs
 
-if-revision-requires-2 : tie.Need-if-revision-requires-2
-if-revision-requires-2 c κs = search needs
+input-if-revision-requires-2 : tie.Need-input-if-revision-requires-2
+input-if-revision-requires-2 c κs = search needs
 
 enum-told-19 : tie.Need-enum-told-19
 enum-told-19 c = search needs
 
-if-pointer-requires-2 : tie.Need-if-pointer-requires-2
-if-pointer-requires-2 c κs = search needs
+input-if-pointer-requires-2 : tie.Need-input-if-pointer-requires-2
+input-if-pointer-requires-2 c κs = search needs
 
 enum-told-20 : tie.Need-enum-told-20
 enum-told-20 c = search needs
@@ -129,20 +129,20 @@ device-requires c κs = search needs
 enum-told-21 : tie.Need-enum-told-21
 enum-told-21 c = search needs
 
-if-revision-requires-3 : tie.Need-if-revision-requires-3
-if-revision-requires-3 c κs = search needs
+input-if-revision-requires-3 : tie.Need-input-if-revision-requires-3
+input-if-revision-requires-3 c κs = search needs
 
 enum-told-22 : tie.Need-enum-told-22
 enum-told-22 c = search needs
 
-if-revision-requires-4 : tie.Need-if-revision-requires-4
-if-revision-requires-4 c κs = search needs
+input-if-revision-requires-4 : tie.Need-input-if-revision-requires-4
+input-if-revision-requires-4 c κs = search needs
 
 enum-told-23 : tie.Need-enum-told-23
 enum-told-23 c = search needs
 
-if-revision-requires-5 : tie.Need-if-revision-requires-5
-if-revision-requires-5 c κs = search needs
+input-if-revision-requires-5 : tie.Need-input-if-revision-requires-5
+input-if-revision-requires-5 c κs = search needs
 
 enum-told-24 : tie.Need-enum-told-24
 enum-told-24 c = search needs
@@ -153,14 +153,14 @@ arbitrate-requires c κs = search needs
 enum-told-25 : tie.Need-enum-told-25
 enum-told-25 c = search needs
 
-if-handle-requires-4 : tie.Need-if-handle-requires-4
-if-handle-requires-4 c κs = search needs
+close-if-handle-requires : tie.Need-close-if-handle-requires
+close-if-handle-requires c κs = search needs
 
 enum-told-26 : tie.Need-enum-told-26
 enum-told-26 c = search needs
 
-if-empty-requires-2 : tie.Need-if-empty-requires-2
-if-empty-requires-2 c κs = search needs
+close-if-empty-requires : tie.Need-close-if-empty-requires
+close-if-empty-requires c κs = search needs
 
 enum-told-27 : tie.Need-enum-told-27
 enum-told-27 c = search needs
@@ -186,50 +186,50 @@ enum-told-31 c = search needs
 enum-told-32 : tie.Need-enum-told-32
 enum-told-32 c = search needs
 
-if-handle-requires-5 : tie.Need-if-handle-requires-5
-if-handle-requires-5 c κs = search needs
+read-if-handle-requires : tie.Need-read-if-handle-requires
+read-if-handle-requires c κs = search needs
 
 enum-told-33 : tie.Need-enum-told-33
 enum-told-33 c = search needs
 
-if-handle-requires-6 : tie.Need-if-handle-requires-6
-if-handle-requires-6 c κs = search needs
+read-if-handle-requires-2 : tie.Need-read-if-handle-requires-2
+read-if-handle-requires-2 c κs = search needs
 
 enum-told-34 : tie.Need-enum-told-34
 enum-told-34 c = search needs
 
-if-handle-requires-7 : tie.Need-if-handle-requires-7
-if-handle-requires-7 c κs = search needs
+read-if-handle-requires-3 : tie.Need-read-if-handle-requires-3
+read-if-handle-requires-3 c κs = search needs
 
 enum-told-35 : tie.Need-enum-told-35
 enum-told-35 c = search needs
 
-if-handle-requires-8 : tie.Need-if-handle-requires-8
-if-handle-requires-8 c κs = search needs
+read-if-handle-requires-4 : tie.Need-read-if-handle-requires-4
+read-if-handle-requires-4 c κs = search needs
 
 enum-told-36 : tie.Need-enum-told-36
 enum-told-36 c = search needs
 
-if-handle-requires-9 : tie.Need-if-handle-requires-9
-if-handle-requires-9 c κs = search needs
+read-if-handle-requires-5 : tie.Need-read-if-handle-requires-5
+read-if-handle-requires-5 c κs = search needs
 
 enum-told-37 : tie.Need-enum-told-37
 enum-told-37 c = search needs
 
-if-handle-requires-10 : tie.Need-if-handle-requires-10
-if-handle-requires-10 c κs = search needs
+read-if-handle-requires-6 : tie.Need-read-if-handle-requires-6
+read-if-handle-requires-6 c κs = search needs
 
 enum-told-38 : tie.Need-enum-told-38
 enum-told-38 c = search needs
 
-if-empty-requires-3 : tie.Need-if-empty-requires-3
-if-empty-requires-3 c κs = search needs
+read-if-empty-requires : tie.Need-read-if-empty-requires
+read-if-empty-requires c κs = search needs
 
 enum-told-39 : tie.Need-enum-told-39
 enum-told-39 c = search needs
 
-if-empty-requires-4 : tie.Need-if-empty-requires-4
-if-empty-requires-4 c κs = search needs
+read-if-empty-requires-2 : tie.Need-read-if-empty-requires-2
+read-if-empty-requires-2 c κs = search needs
 
 enum-told-40 : tie.Need-enum-told-40
 enum-told-40 c = search needs
@@ -237,8 +237,8 @@ enum-told-40 c = search needs
 enum-told-41 : tie.Need-enum-told-41
 enum-told-41 c = search needs
 
-if-empty-requires-5 : tie.Need-if-empty-requires-5
-if-empty-requires-5 c κs = search needs
+read-if-empty-requires-3 : tie.Need-read-if-empty-requires-3
+read-if-empty-requires-3 c κs = search needs
 
 enum-told-42 : tie.Need-enum-told-42
 enum-told-42 c = search needs
@@ -259,19 +259,19 @@ returns-5 : tie.Need-returns-5
 returns-5 c = rw (c .enum-told5 .given .1)
 
 returns-6 : tie.Need-returns-6
-returns-6 c = rw (c .before .enum-told6 .given .1, c .if-empty .ensures)
+returns-6 c = rw (c .before .enum-told6 .given .1, c .panel-if-empty .ensures)
 
 returns-7 : tie.Need-returns-7
-returns-7 c = rw (c .before .enum-told7 .given .1, c .if-handle .ensures, c .before .before .before .before .before .first-handle .ensures)
+returns-7 c = rw (c .before .enum-told7 .given .1, c .panel-if-handle .ensures, c .before .before .before .before .before .first-handle .ensures)
 
 returns-8 : tie.Need-returns-8
-returns-8 c = rw (c .before .enum-told8 .given .1, c .if-handle2 .ensures, c .before .before .before .before .before .first-handle .ensures)
+returns-8 c = rw (c .before .enum-told8 .given .1, c .panel-if-handle2 .ensures, c .before .before .before .before .before .first-handle .ensures)
 
 returns-9 : tie.Need-returns-9
 returns-9 c = rw (c .before .enum-told9 .given .1, c .metrics .ensures)
 
 returns-10 : tie.Need-returns-10
-returns-10 c = rw (c .before .enum-told10 .given .1, c .if-handle3 .ensures, c .before .before .before .before .before .first-handle .ensures)
+returns-10 c = rw (c .before .enum-told10 .given .1, c .panel-if-handle3 .ensures, c .before .before .before .before .before .first-handle .ensures)
 
 returns-11 : tie.Need-returns-11
 returns-11 c = rw (c .before .enum-told11 .given .1, c .attach .ensures)
@@ -289,37 +289,37 @@ returns-15 : tie.Need-returns-15
 returns-15 c = rw (c .before .enum-told15 .given .1, c .focus .ensures)
 
 returns-16 : tie.Need-returns-16
-returns-16 c = rw (c .before .enum-told16 .given .1, c .if-revision .ensures, c .before .before .before .before .first-arguments .ensures)
+returns-16 c = rw (c .before .enum-told16 .given .1, c .input-if-revision .ensures, c .before .before .before .before .first-arguments .ensures)
 
 returns-17 : tie.Need-returns-17
-returns-17 c = rw (c .before .enum-told17 .given .1, c .if-pointer .ensures, c .before .before .before .pointer-arguments .ensures)
+returns-17 c = rw (c .before .enum-told17 .given .1, c .input-if-pointer .ensures, c .before .before .before .pointer-arguments .ensures)
 
 returns-18 : tie.Need-returns-18
-returns-18 c = rw (c .before .enum-told18 .given .1, c .if-revision2 .ensures, c .before .before .before .before .first-arguments .ensures)
+returns-18 c = rw (c .before .enum-told18 .given .1, c .input-if-revision2 .ensures, c .before .before .before .before .first-arguments .ensures)
 
 returns-19 : tie.Need-returns-19
-returns-19 c = rw (c .before .enum-told19 .given .1, c .if-pointer2 .ensures, c .before .before .before .pointer-arguments .ensures)
+returns-19 c = rw (c .before .enum-told19 .given .1, c .input-if-pointer2 .ensures, c .before .before .before .pointer-arguments .ensures)
 
 returns-20 : tie.Need-returns-20
 returns-20 c = rw (c .before .enum-told20 .given .1, c .device .ensures)
 
 returns-21 : tie.Need-returns-21
-returns-21 c = rw (c .before .enum-told21 .given .1, c .if-revision3 .ensures, c .before .before .before .before .first-arguments .ensures)
+returns-21 c = rw (c .before .enum-told21 .given .1, c .input-if-revision3 .ensures, c .before .before .before .before .first-arguments .ensures)
 
 returns-22 : tie.Need-returns-22
-returns-22 c = rw (c .before .enum-told22 .given .1, c .if-revision4 .ensures, c .before .before .before .before .first-arguments .ensures)
+returns-22 c = rw (c .before .enum-told22 .given .1, c .input-if-revision4 .ensures, c .before .before .before .before .first-arguments .ensures)
 
 returns-23 : tie.Need-returns-23
-returns-23 c = rw (c .before .enum-told23 .given .1, c .if-revision5 .ensures, c .before .before .before .before .first-arguments .ensures)
+returns-23 c = rw (c .before .enum-told23 .given .1, c .input-if-revision5 .ensures, c .before .before .before .before .first-arguments .ensures)
 
 returns-24 : tie.Need-returns-24
 returns-24 c = rw (c .before .enum-told24 .given .1, c .arbitrate .ensures)
 
 returns-25 : tie.Need-returns-25
-returns-25 c = rw (c .before .enum-told25 .given .1, c .if-handle4 .ensures, c .before .before .before .before .before .first-handle .ensures)
+returns-25 c = rw (c .before .enum-told25 .given .1, c .close-if-handle .ensures, c .before .before .before .before .before .first-handle .ensures)
 
 returns-26 : tie.Need-returns-26
-returns-26 c = rw (c .before .enum-told26 .given .1, c .if-empty2 .ensures)
+returns-26 c = rw (c .before .enum-told26 .given .1, c .close-if-empty .ensures)
 
 returns-27 : tie.Need-returns-27
 returns-27 c = rw (c .before .enum-told27 .given .1, c .hit-test .ensures)
@@ -337,34 +337,34 @@ returns-31 : tie.Need-returns-31
 returns-31 c = rw (c .enum-told31 .given .1)
 
 returns-32 : tie.Need-returns-32
-returns-32 c = rw (c .before .enum-told32 .given .1, c .if-handle5 .ensures, c .before .before .before .before .before .first-handle .ensures)
+returns-32 c = rw (c .before .enum-told32 .given .1, c .read-if-handle .ensures, c .before .before .before .before .before .first-handle .ensures)
 
 returns-33 : tie.Need-returns-33
-returns-33 c = rw (c .before .enum-told33 .given .1, c .if-handle6 .ensures, c .before .before .before .before .before .first-handle .ensures)
+returns-33 c = rw (c .before .enum-told33 .given .1, c .read-if-handle2 .ensures, c .before .before .before .before .before .first-handle .ensures)
 
 returns-34 : tie.Need-returns-34
-returns-34 c = rw (c .before .enum-told34 .given .1, c .if-handle7 .ensures, c .before .before .before .before .before .first-handle .ensures)
+returns-34 c = rw (c .before .enum-told34 .given .1, c .read-if-handle3 .ensures, c .before .before .before .before .before .first-handle .ensures)
 
 returns-35 : tie.Need-returns-35
-returns-35 c = rw (c .before .enum-told35 .given .1, c .if-handle8 .ensures, c .before .before .before .before .before .first-handle .ensures)
+returns-35 c = rw (c .before .enum-told35 .given .1, c .read-if-handle4 .ensures, c .before .before .before .before .before .first-handle .ensures)
 
 returns-36 : tie.Need-returns-36
-returns-36 c = rw (c .before .enum-told36 .given .1, c .if-handle9 .ensures, c .before .before .before .before .before .first-handle .ensures)
+returns-36 c = rw (c .before .enum-told36 .given .1, c .read-if-handle5 .ensures, c .before .before .before .before .before .first-handle .ensures)
 
 returns-37 : tie.Need-returns-37
-returns-37 c = rw (c .before .enum-told37 .given .1, c .if-handle10 .ensures, c .before .before .before .before .before .first-handle .ensures)
+returns-37 c = rw (c .before .enum-told37 .given .1, c .read-if-handle6 .ensures, c .before .before .before .before .before .first-handle .ensures)
 
 returns-38 : tie.Need-returns-38
-returns-38 c = rw (c .before .enum-told38 .given .1, c .if-empty3 .ensures)
+returns-38 c = rw (c .before .enum-told38 .given .1, c .read-if-empty .ensures)
 
 returns-39 : tie.Need-returns-39
-returns-39 c = rw (c .before .enum-told39 .given .1, c .if-empty4 .ensures)
+returns-39 c = rw (c .before .enum-told39 .given .1, c .read-if-empty2 .ensures)
 
 returns-40 : tie.Need-returns-40
 returns-40 c = rw (c .enum-told40 .given .1)
 
 returns-41 : tie.Need-returns-41
-returns-41 c = rw (c .before .enum-told41 .given .1, c .if-empty5 .ensures)
+returns-41 c = rw (c .before .enum-told41 .given .1, c .read-if-empty3 .ensures)
 
 returns-42 : tie.Need-returns-42
 returns-42 c = rw (c .enum-told42 .given .1)
@@ -385,15 +385,15 @@ read-fields-spec =
     new-at-call-requires
     enum-told-5
     enum-told-6
-    if-empty-requires
+    panel-if-empty-requires
     enum-told-7
-    if-handle-requires
+    panel-if-handle-requires
     enum-told-8
-    if-handle-requires-2
+    panel-if-handle-requires-2
     enum-told-9
     metrics-requires
     enum-told-10
-    if-handle-requires-3
+    panel-if-handle-requires-3
     enum-told-11
     attach-requires
     enum-told-12
@@ -405,27 +405,27 @@ read-fields-spec =
     enum-told-15
     focus-requires
     enum-told-16
-    if-revision-requires
+    input-if-revision-requires
     enum-told-17
-    if-pointer-requires
+    input-if-pointer-requires
     enum-told-18
-    if-revision-requires-2
+    input-if-revision-requires-2
     enum-told-19
-    if-pointer-requires-2
+    input-if-pointer-requires-2
     enum-told-20
     device-requires
     enum-told-21
-    if-revision-requires-3
+    input-if-revision-requires-3
     enum-told-22
-    if-revision-requires-4
+    input-if-revision-requires-4
     enum-told-23
-    if-revision-requires-5
+    input-if-revision-requires-5
     enum-told-24
     arbitrate-requires
     enum-told-25
-    if-handle-requires-4
+    close-if-handle-requires
     enum-told-26
-    if-empty-requires-2
+    close-if-empty-requires
     enum-told-27
     hit-test-requires
     enum-told-28
@@ -434,24 +434,24 @@ read-fields-spec =
     enum-told-30
     enum-told-31
     enum-told-32
-    if-handle-requires-5
+    read-if-handle-requires
     enum-told-33
-    if-handle-requires-6
+    read-if-handle-requires-2
     enum-told-34
-    if-handle-requires-7
+    read-if-handle-requires-3
     enum-told-35
-    if-handle-requires-8
+    read-if-handle-requires-4
     enum-told-36
-    if-handle-requires-9
+    read-if-handle-requires-5
     enum-told-37
-    if-handle-requires-10
+    read-if-handle-requires-6
     enum-told-38
-    if-empty-requires-3
+    read-if-empty-requires
     enum-told-39
-    if-empty-requires-4
+    read-if-empty-requires-2
     enum-told-40
     enum-told-41
-    if-empty-requires-5
+    read-if-empty-requires-3
     enum-told-42
     returns
     returns-2
