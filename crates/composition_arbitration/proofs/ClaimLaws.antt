@@ -17,10 +17,11 @@ use Rattle.composition_state.specs.Layers.{itself, layerLt}
 use Rattle.composition_state.proofs.LayerLaws as layer
 use Rattle.composition_state.specs.Surfaces.{descriptorOf}
 use Rattle.composition_arbitration.specs.declared.targets.Choice.{Choice}
+use Rattle.composition_arbitration.specs.declared.targets.Choice.the-variants.{Captured, Hit, HitStack, Focused, FocusedText, Given}
 use Rattle.composition_arbitration.specs.declared.walk.Verdict.{Verdict}
 use Rattle.composition_arbitration.specs.declared.walk.Verdict.the-variants.{Observing, NotTargeted, PassedThrough, Took, Blocks}
-use Rattle.composition_arbitration.specs.Layers.{delivers, consumes, observes, verdictAt, untilConsumed, walked, deliveriesOf, consumerOf}
-use Rattle.composition_arbitration.specs.Targets.{isTargeted, chosen}
+use Rattle.composition_arbitration.specs.Layers.{verdict, delivers, consumes, observes, verdictAt, untilConsumed, walked, deliveriesOf, consumerOf, walkOf}
+use Rattle.composition_arbitration.specs.Targets.{isAmong, isTargeted, chosen}
 use Rattle.composition_arbitration.specs.Claims.{EndsWith, FromTheTop, surfacesOf, WalkClaims}
 use Rattle.composition_arbitration.proofs.WalkLaws.{until-stop, until-go, consumer-one, consumer-go, nothing-left, deliveries-append}
 
@@ -149,6 +150,23 @@ blocks-here : (s : SurfaceTable) (c : Choice) (hits : List GenerationalHandle) (
 unfolding verdictAt
 blocks-here s c hits h p = rw p
 
+-- ---- the hits matter only by who is among them
+same-targets : (c : Choice) (hits more : List GenerationalHandle) (h : GenerationalHandle) (text : Bool) → isAmong h hits ≡ isAmong h more → isTargeted c hits h text ≡ isTargeted c more h text
+unfolding isTargeted
+same-targets (Captured g) hits more h text e = refl
+same-targets (Hit m) hits more h text e = refl
+same-targets HitStack hits more h text e = e
+same-targets (Focused m) hits more h text e = refl
+same-targets (FocusedText m) hits more h text e = refl
+same-targets (Given m) hits more h text e = refl
+
+same-walk : (s : SurfaceTable) (c : Choice) (hits more l : List GenerationalHandle) → ((h : GenerationalHandle) → isAmong h hits ≡ isAmong h more)
+    → walkOf (verdictAt s c hits) l ≡ walkOf (verdictAt s c more) l
+unfolding verdictAt
+same-walk s c hits more l e =
+    ap (λ (at : GenerationalHandle → Verdict). walkOf at l)
+    (λ j h. verdict (descriptorOf s h .input) (same-targets c hits more h (descriptorOf s h .«accepts_text») (e h) j))
+
 pub claims : WalkClaims
 unfolding chosen verdictAt isTargeted
 claims = record {
@@ -159,5 +177,6 @@ claims = record {
   observers-hear = λ s c hits l h m p. hears (verdictAt s c hits) _ h m (observes-here s c hits h p);
   exclusive-ends = λ s c hits below above h p. ends-there (verdictAt s c hits) below above h (blocks-here s c hits h p);
   capture-decides = λ s v owner m n hits more l e. (rw e, rw e);
+  hit-order = same-walk;
   named-capture-decides = λ s v p owner m n hits more l e. (rw e, rw e);
 }

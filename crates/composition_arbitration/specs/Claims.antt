@@ -31,7 +31,7 @@ use Rattle.composition_arbitration.specs.declared.targets.Choice.{Choice
 use Rattle.composition_arbitration.specs.declared.walk.Verdict.{Verdict}
 use Rattle.composition_arbitration.specs.Arbitration.{ownHits, arbitration, traceOf, withTrace, arbitrated}
 use Rattle.composition_arbitration.specs.Layers.{delivers, consumes, verdictAt, walked, deliveriesOf, consumerOf, walkOf}
-use Rattle.composition_arbitration.specs.Targets.{captureFor, chosen}
+use Rattle.composition_arbitration.specs.Targets.{isAmong, captureFor, chosen}
 
 -- a list ends with this delivery
 pub record EndsWith (d : InputDelivery) (l : List InputDelivery) : Type 0 where
@@ -77,6 +77,9 @@ pub record WalkClaims : Type 0 where
       (hits more l : List GenerationalHandle) → captureFor p v ≡ Some owner
       → (walkOf (verdictAt s (chosen (PointerFor p m) v) hits) l ≡ walkOf (verdictAt s (chosen (PointerFor p n) v) more) l)
       × (walkOf (verdictAt s (chosen (PointerStackFor p) v) hits) l ≡ walkOf (verdictAt s (chosen (PointerStackFor p) v) more) l)
+  -- the order of the hits decides nothing: lists with the same panels give the same answer
+  pub hit-order : (s : SurfaceTable) (c : Choice) (hits more l : List GenerationalHandle) → ((h : GenerationalHandle) → isAmong h hits ≡ isAmong h more)
+      → walkOf (verdictAt s c hits) l ≡ walkOf (verdictAt s c more) l
 
 -- the trace that an accepted call stores
 abbrev pub newTrace : CompositionRegistry → GenerationalHandle → ArbitrationEvent → Hits → CompositionTrace

@@ -3,7 +3,6 @@ ghost use mathlib.Core.Path.{_≡_};
 ghost use mathlib.Core.List.{reverse};
 ghost use Prim.Native.Nat.{_+_, _≤_, _<_};
 ghost use Rattle.lists.specs.Tables.{entriesOf, pushed};
-ghost use Rattle.handles.specs.Slots.{usedPlaces};
 ghost use Rattle.composition_state.specs.Layers.{layers};
 ghost use Rattle.composition_close.specs.Reports.{closeReports};
 ghost use Rattle.composition_close.specs.Shutdown.{isOver, shutdownRefusal, layerClosed, layersClosed, viewClosed, viewClosedAt, viewsClosed, windowClosedAt, windowsClosed, shutDown, shutdownOf};
@@ -19,9 +18,9 @@ use composition_state::error::Outcome;
 use composition_state::error::refuse_if;
 use composition_state::layers::Layers;
 use composition_state::registry::CompositionRegistry;
-use handles::arena::Arena;
 use handles::arena::live_handles;
 use handles::arena::preflight_release;
+use handles::arena::used_places;
 use handles::handle::GenerationalHandle;
 use lists::both;
 
@@ -194,15 +193,6 @@ fn close_window_at(registry: CompositionRegistry, i: usize) -> CompositionRegist
         return changed.registry;
     }
     registry
-}
-
-fn used_places(a: Arena) -> usize
-    ensures { λ r. ⌜ r ≡ usedPlaces a ⌝ }
-{
-    if a.used < 64 {
-        return a.used;
-    }
-    64
 }
 
 fn close_windows(registry: CompositionRegistry) -> CompositionRegistry

@@ -1,5 +1,5 @@
 // The hit test of a view: the panels under a point, topmost first, as numbers in a lent buffer.
-pub mod buffer;
+mod buffer;
 pub mod stack;
 
 ghost use Rattle.composition_hits.specs.Claims.{HitClaims};

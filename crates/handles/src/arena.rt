@@ -313,7 +313,7 @@ pub fn release(a: Arena, h: GenerationalHandle) -> ReleaseAnswer
 }
 
 // How many slots of the table were used: all, where the count is past its end.
-fn used_places(a: Arena) -> usize
+pub fn used_places(a: Arena) -> usize
     ensures { λ r. ⌜ r ≡ usedPlaces a ⌝ }
 {
     if a.used < SLOTS { a.used } else { SLOTS }

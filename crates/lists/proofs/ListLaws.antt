@@ -1,12 +1,12 @@
 -- Laws of the lists by a test and of a list in an array, at any element type, by induction on the list.
+use Prim.Native.Nat.{ℕ, zero, suc, _+_, _-_, _≤_, _<_}
 use mathlib.Core.Path.{_≡_, refl, sym, ap, _∙_}
-use mathlib.Core.Bool.{Bool, true, false, cond, not, _&&_, true≢false}
+use mathlib.Core.Bool.{Bool, true, false, not, _&&_, true≢false}
 use mathlib.Core.List.{List, [], _∷_, _++_, append-assoc, append-nil, map, reverse, reverse-append, reverse-cons}
 use mathlib.Core.Option.{Option, none, some}
-use Prim.Native.Nat.{ℕ, zero, suc, _+_, _-_, _≤_, _<_}
 use native.Mathlib.Numerals.{add-one}
 use native.Mathlib.Omega.{arith}
-use lib.ListN.{length, take, drop, take-append-drop, set, getD, replicate, length-append, length-replicate, List·getD-eq-default}
+use lib.ListN.{length, take, drop, take-append-drop, set, getD, length-append, length-replicate, List·getD-eq-default}
 use lib.Seq.{drop-cons, take-suc, take-append-seam, set-append-seam, set-out}
 use Rattle.lists.specs.Lists.{keep, first, all, pad}
 

@@ -1,14 +1,14 @@
 -- A table as a list, at any shape: a push puts an entry after the list, and one turn of a loop that copies the entries that pass a test.
-use mathlib.Core.Path.{_≡_, refl, sym, ap, _∙_}
-use mathlib.Core.Bool.{Bool, true, false}
-use mathlib.Core.List.{List, [], _∷_, _++_, append-assoc, append-nil, map}
 use Prim.Native.Nat.{ℕ, _+_, _≤_, _<_}
+use mathlib.Core.Path.{_≡_, sym, ap, _∙_}
+use mathlib.Core.Bool.{Bool, true, false}
+use mathlib.Core.List.{List, [], _∷_, _++_, append-assoc}
 use native.Mathlib.Omega.{arith}
-use lib.ListN.{length, take, getD, set, length-append, length-take, length-map}
+use lib.ListN.{length, take, getD, set, length-append, length-take}
 use lib.Seq.{getD-take}
 use Rattle.lists.specs.Lists.{keep, pad}
 use Rattle.lists.specs.Tables.{Shape, entriesOf, packed, pushed}
-use Rattle.lists.proofs.ListLaws.{keep-yes, keep-no, keep-room, length-keep, take-pad, push-pad, map-snoc}
+use Rattle.lists.proofs.ListLaws.{keep-yes, keep-no, keep-room, take-pad, push-pad}
 
 module _ {E T : Type 0} (s : Shape E T) where
   pub few : (t : T) → length (s .all t) ≡ s .size → length (entriesOf s t) ≤ s .size

@@ -8,23 +8,18 @@ use Rattle.composition_state.proofs.registry.CompositionRegistry.settle
 use Rattle.composition_state.proofs.registry.CompositionRegistry.settle.Lts as lts
 use Rattle.composition_state.proofs.registry.CompositionRegistry.advance.Reads as advance-reads
 
--- src/registry.rt:114:34
 enum-told : tie.Need-enum-told
 enum-told c = search needs
 
--- src/registry.rt:114:34
 advance-requires : tie.Need-advance-requires
 advance-requires c κs = search needs
 
--- src/registry.rt:115:30
 enum-known-refusal : tie.Need-enum-known-refusal
 enum-known-refusal c = search needs
 
--- src/registry.rt:110:5
 returns : tie.Need-returns
 returns c = rw (c .advance .ensures, c .before .enum-told .given .1)
 
--- src/registry.rt:110:5
 returns-2 : tie.Need-returns-2
 returns-2 c = rw (c .before .refusal .given .1)
 

@@ -1,3 +1,4 @@
+-- `Shortcuts::without` meets its contract: after each turn the entries of other slots that were passed stand in the new table.
 use Prim.Native.Nat.{_≤_, _<_, _-_, _+_}
 use mathlib.Core.Path.{_≡_, sym, ap, _∙_}
 use mathlib.Core.Logic.{⊎-elim}
@@ -15,12 +16,6 @@ use Rattle.composition_state.specs.Shortcuts.{shortcuts, isOfOtherSlot}
 use Rattle.composition_state.proofs.ShortcutLaws.{few}
 use Rattle.composition_state.proofs.shortcut.Shortcuts.without.Statement.{statement}
 use Rattle.composition_state.proofs.shortcut.Shortcuts.without.Tie as tie
-use Rattle.composition_state.proofs.shortcut.Shortcuts.without.Reads as reads
-use Rattle.composition_state.proofs.shortcut.Shortcuts.without.Lts as lts
-use Rattle.composition_state.proofs.shortcut.Shortcuts.count.Reads as count-reads
-use Rattle.composition_state.proofs.shortcut.Shortcuts.new.Reads as new-reads
-use Rattle.composition_state.proofs.shortcut.Shortcuts.push.Reads as push-reads
-use Rattle.composition_state.proofs.shortcut.is_of_other_slot.Reads as is-of-other-slot-reads
 
 abbrev Inv-loop : tie.InvT-loop
 Inv-loop slot self next₀ n i₀ next i = (i ≤ n) × (n ≤ 256) × (next ≡ packed shortcuts (keep (isOfOtherSlot slot) (take i (entriesOf shortcuts self))))
@@ -28,31 +23,24 @@ Inv-loop slot self next₀ n i₀ next i = (i ≤ n) × (n ≤ 256) × (next ≡
 abbrev μ-loop : tie.MeasureT-loop
 μ-loop slot self next₀ n i₀ next i = n - i
 
--- src/shortcut.rt:77:13
 new-requires : tie.Need-new-requires Inv-loop μ-loop
 new-requires c κs = search needs
 
--- src/shortcut.rt:78:13
 count-requires : tie.Need-count-requires Inv-loop μ-loop
 count-requires c κs = search needs
 
--- src/shortcut.rt:80:9
 loop-holds : tie.Need-loop-holds Inv-loop μ-loop
 loop-holds c = (omega arith, omega (arith, few (c .before .before .args .t1) (c .before .before .good .0)), c .before .new .ensures)
 
--- src/shortcut.rt:81:25
 mul-entry : tie.Need-mul-entry Inv-loop μ-loop
 mul-entry c = omega arith
 
--- src/shortcut.rt:81:25
 element-copy-out-entry : tie.Need-element-copy-out-entry Inv-loop μ-loop
 element-copy-out-entry c = omega arith
 
--- src/shortcut.rt:82:16
 is-of-other-slot-requires : tie.Need-is-of-other-slot-requires Inv-loop μ-loop
 is-of-other-slot-requires c κs = search needs
 
--- src/shortcut.rt:83:17
 push-requires : tie.Need-push-requires Inv-loop μ-loop
 push-requires c κs =
     let a = c .before .before .before .before .before .before .before .args in
@@ -60,15 +48,12 @@ push-requires c κs =
     let within : l .i < length (entriesOf shortcuts (a .t1)) = omega arith in
     omega (arith, ap (λ (t : Shortcuts). t .len) (l .inv .2) ∙ len-packed shortcuts _, turn-room shortcuts (isOfOtherSlot (a .slot)) (a .t1) (l .i) _ within [] (sym (c .before .is-of-other-slot .ensures) ∙ c .if1 .taken) (omega (arith, length-keep (isOfOtherSlot (a .slot)) (entriesOf shortcuts (a .t1)), few (a .t1) (c .before .before .before .before .before .before .before .good .0))))
 
--- src/shortcut.rt:85:13
 add-i : tie.Need-add-i Inv-loop μ-loop
 add-i c = omega arith
 
--- src/shortcut.rt:80:9
 loop-less : tie.Need-loop-less Inv-loop μ-loop
 loop-less c = omega arith
 
--- src/shortcut.rt:80:9
 loop-again : tie.Need-loop-again Inv-loop μ-loop
 loop-again c =
     let a = c .before .before .before .before .before .before .before .args in
@@ -83,7 +68,6 @@ loop-again c =
           (c .if1 .came),
     )
 
--- src/shortcut.rt:74:5
 returns : tie.Need-returns Inv-loop μ-loop
 returns c =
     let i-is : c .before .loop .i ≡ length (entriesOf shortcuts (c .before .before .before .before .args .t1)) = omega arith in
