@@ -16,7 +16,6 @@ use mir.Val.{Val, toZ, ofZ}
 use denote.Laws.{Is}
 use denote.Struct.Laws as LL
 use borrow.Author.Tests.{ltb-true, ltb-false}
-use Rattle.lists.specs.Below.{allBelow}
 use Rattle.lists.specs.Lists.{pad}
 use Rattle.lists.proofs.BelowLaws.{all-more}
 use Rattle.lists.proofs.ListLaws.{by-test, map-snoc, length-pad, push-pad}
