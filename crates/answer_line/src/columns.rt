@@ -3,6 +3,7 @@ use answer::put::put_byte;
 use answer::put::put_bytes;
 use answer::put::put_pair;
 use answer::put::put_u64;
+use call_report::More;
 use composition_input::answer::CaptureList;
 use composition_reads::traces;
 use composition_reads::view_layers;
@@ -25,7 +26,6 @@ use registry_dump::sink::take_items;
 use registry_dump::traces::take_traces;
 use registry_dump::views::take_captures;
 use registry_dump::views::take_view_layers;
-use script_run::report::More;
 
 // A number and the space behind it.
 pub fn put_cell(out: &mut [u8], at: usize, n: u64) -> usize {

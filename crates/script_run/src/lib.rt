@@ -1,3 +1,2 @@
-// A script's calls, run on a registry, and what each has to show.
-pub mod report;
+// A script's calls that answer plainly, run on a registry, and what each has to show.
 pub mod run;

@@ -1,13 +1,13 @@
 // Runs a call on a registry.
-use crate::report::More;
-use crate::report::Report;
-use crate::report::changed_report;
-use crate::report::created_report;
-use crate::report::handle_if;
-use crate::report::metrics_report;
-use crate::report::plain;
-use crate::report::read_report;
-use crate::report::suspended_report;
+use call_report::More;
+use call_report::Report;
+use call_report::changed_report;
+use call_report::created_report;
+use call_report::handle_if;
+use call_report::metrics_report;
+use call_report::plain;
+use call_report::read_report;
+use call_report::suspended_report;
 use composition_input::captures::capture_pointer;
 use composition_input::captures::capture_pointer_for;
 use composition_input::captures::release_pointer;

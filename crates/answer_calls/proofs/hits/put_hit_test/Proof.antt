@@ -3,8 +3,8 @@ use mathlib.Core.Path.{sym}
 use native.Mathlib.Omega.{arith}
 use borrow.Author.Needs.{needs}
 use lib.Seq.{length-take-le}
-use Rattle.replay.proofs.answers.put_hit_test.Statement.{statement}
-use Rattle.replay.proofs.answers.put_hit_test.Tie as tie
+use Rattle.answer_calls.proofs.hits.put_hit_test.Statement.{statement}
+use Rattle.answer_calls.proofs.hits.put_hit_test.Tie as tie
 
 lent-requires : tie.Need-lent-requires
 lent-requires c κs = search needs
