@@ -1,4 +1,5 @@
 pub mod BufferLaws
 pub mod HitLaws
+pub mod TableLaws
 pub mod TestLaws
 pub mod ClaimLaws

@@ -1,7 +1,7 @@
 -- Document 01, Hit test: the layers from the top that pass the panel test. Refused 42, 8/9, 41.
 use Prim.Native.Nat.{ℕ}
-use mathlib.Core.Bool.{Bool}
-use mathlib.Core.List.{List, [], reverse}
+use mathlib.Core.Bool.{Bool, true, false}
+use mathlib.Core.List.{List, [], _∷_, reverse}
 use lib.ListN.{length}
 use lib.Dec.{ltb}
 use Rattle.lists.specs.Lists.{keep}
@@ -31,6 +31,11 @@ isLayerHit surfaces p h = isHit (descriptorOf surfaces h .geometry) (p .«x_mill
 -- the layers from the top that pass it, of layers from the lowest on
 unfoldable pub hitsAmong : SurfaceTable → Point → List GenerationalHandle → List GenerationalHandle
 hitsAmong surfaces p l = keep (isLayerHit surfaces p) (reverse l)
+
+-- a panel that is hit, and none of one that is not
+abbrev pub listedIf : Bool → GenerationalHandle → List GenerationalHandle
+listedIf true h = h ∷ []
+listedIf false h = []
 
 abbrev pub layersOf : ViewTable → GenerationalHandle → Layers
 layersOf views view = viewAt views view .surfaces

@@ -1,6 +1,7 @@
 // The hit test of a view: the panels under a point, topmost first, as numbers in a lent buffer.
 mod buffer;
 pub mod stack;
+pub mod table;
 
 ghost use Rattle.composition_hits.specs.Claims.{HitClaims};
 

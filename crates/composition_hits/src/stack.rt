@@ -23,7 +23,7 @@ pub struct HitTest {
     pub numbers: usize,
 }
 
-fn is_layer_hit(surfaces: SurfaceTable, point: Point, surface: GenerationalHandle) -> bool
+pub fn is_layer_hit(surfaces: SurfaceTable, point: Point, surface: GenerationalHandle) -> bool
     ensures { λ r. ⌜ r ≡ isLayerHit surfaces point surface ⌝ }
 {
     let descriptor = surfaces.descriptor(surface);
@@ -48,7 +48,7 @@ fn fill(surfaces: SurfaceTable, layers: Layers, point: Point, buffer: &mut [u64]
     at
 }
 
-fn layers_of(views: ViewTable, view: GenerationalHandle) -> Layers
+pub fn layers_of(views: ViewTable, view: GenerationalHandle) -> Layers
     ensures { λ r. ⌜ r ≡ layersOf views view ⌝ }
 {
     let record = views.record(view);
