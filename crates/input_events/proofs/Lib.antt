@@ -1,0 +1,3 @@
+pub mod DeliveryLaws
+pub mod TiltLaws
+pub mod ClaimLaws

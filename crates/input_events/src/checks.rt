@@ -1,0 +1,131 @@
+// What an event is refused for before the router's own state is asked.
+ghost use mathlib.Core.Path.{_≡_};
+ghost use Rattle.input_events.specs.Checks.{contactRefusal, isTiltAllowed, pointerRefusal, selectionRefusal, shortcutRefusal, payloadRefusal, deviceRefusal, windowRefusal, metricsRefusal, headerRefusal, eventRefusal};
+use crate::error::PlatformInputError;
+use crate::error::RouterOutcome;
+use crate::error::refuse_if;
+use crate::event::CompositionInput;
+use crate::event::PlatformInputEvent;
+use crate::event::PlatformInputHeader;
+use crate::event::PlatformInputPayload;
+use crate::event::PointerInput;
+use crate::event::ShortcutInput;
+use composition_state::error::CompositionError;
+use composition_state::view::ViewRecord;
+use composition_state::view::ViewTable;
+use handles::handle::same_handle;
+use lists::both;
+use maps::keys::InputDeviceId;
+
+fn contact_refusal(contact: u32) -> RouterOutcome
+    ensures { λ r. ⌜ r ≡ contactRefusal contact ⌝ }
+{
+    refuse_if(contact == 4294967295, PlatformInputError::InvalidPointer)
+}
+
+fn is_tilt_allowed(pointer: PointerInput) -> bool
+    ensures { λ r. ⌜ r ≡ isTiltAllowed pointer ⌝ }
+{
+    let x = both(pointer.tilt_x_degrees >= -90, pointer.tilt_x_degrees <= 90);
+    let y = both(pointer.tilt_y_degrees >= -90, pointer.tilt_y_degrees <= 90);
+    both(x, y)
+}
+
+fn pointer_refusal(pointer: PointerInput) -> RouterOutcome
+    ensures { λ r. ⌜ r ≡ pointerRefusal pointer ⌝ }
+{
+    let contact = contact_refusal(pointer.contact);
+    let pressure = refuse_if(
+        pointer.pressure_q15 > 32768,
+        PlatformInputError::InvalidPressure,
+    );
+    let tilt = refuse_if(!is_tilt_allowed(pointer), PlatformInputError::InvalidTilt);
+    contact.then(pressure.then(tilt))
+}
+
+fn selection_refusal(composition: CompositionInput) -> RouterOutcome
+    ensures { λ r. ⌜ r ≡ selectionRefusal composition ⌝ }
+{
+    let forward = composition.selection_start <= composition.selection_end;
+    let inside = composition.selection_end <= composition.length;
+    refuse_if(
+        !both(forward, inside),
+        PlatformInputError::InvalidTextSelection,
+    )
+}
+
+fn shortcut_refusal(shortcut: ShortcutInput) -> RouterOutcome
+    ensures { λ r. ⌜ r ≡ shortcutRefusal shortcut ⌝ }
+{
+    refuse_if(
+        shortcut.class_mask == 0,
+        PlatformInputError::InvalidShortcut,
+    )
+}
+
+// What a payload is refused for.
+pub fn payload_refusal(payload: PlatformInputPayload) -> RouterOutcome
+    ensures { λ r. ⌜ r ≡ payloadRefusal payload ⌝ }
+{
+    match payload {
+        PlatformInputPayload::Pointer(pointer) => pointer_refusal(pointer),
+        PlatformInputPayload::Wheel(wheel) => contact_refusal(wheel.contact),
+        PlatformInputPayload::Key(_) => RouterOutcome::Accepted,
+        PlatformInputPayload::Shortcut(shortcut) => shortcut_refusal(shortcut),
+        PlatformInputPayload::Text(_) => RouterOutcome::Accepted,
+        PlatformInputPayload::Composition(composition) => selection_refusal(composition),
+        PlatformInputPayload::GamepadSnapshot(_) => RouterOutcome::Accepted,
+        PlatformInputPayload::FocusChanged(_) => RouterOutcome::Accepted,
+        PlatformInputPayload::VisibilityChanged(_) => RouterOutcome::Accepted,
+        PlatformInputPayload::DeviceDisconnected => RouterOutcome::Accepted,
+    }
+}
+
+pub fn device_refusal(device: InputDeviceId) -> RouterOutcome
+    ensures { λ r. ⌜ r ≡ deviceRefusal device ⌝ }
+{
+    refuse_if(!device.is_valid(), PlatformInputError::InvalidDevice)
+}
+
+fn window_refusal(record: ViewRecord, header: PlatformInputHeader) -> RouterOutcome
+    ensures { λ r. ⌜ r ≡ windowRefusal «record» header ⌝ }
+{
+    let own = record.window;
+    let named = header.window;
+    refuse_if(!same_handle(own, named), PlatformInputError::InvalidWindow)
+}
+
+fn metrics_refusal(record: ViewRecord, header: PlatformInputHeader) -> RouterOutcome
+    ensures { λ r. ⌜ r ≡ metricsRefusal «record» header ⌝ }
+{
+    let metrics = record.metrics;
+    refuse_if(
+        metrics.revision != header.metrics_revision,
+        PlatformInputError::Composition(CompositionError::RevisionConflict),
+    )
+}
+
+// What a header is refused for: its view, the window of that view, and the revision of its metrics.
+pub fn header_refusal(views: ViewTable, header: PlatformInputHeader) -> RouterOutcome
+    ensures { λ r. ⌜ r ≡ headerRefusal views header ⌝ }
+{
+    let view = header.view;
+    let record = views.record(view);
+    let unknown = crate::error::from_composition(views.refusal(view));
+    let window = window_refusal(record, header);
+    let metrics = metrics_refusal(record, header);
+    unknown.then(window.then(metrics))
+}
+
+// What an event is refused for, whatever the router holds.
+pub fn event_refusal(views: ViewTable, event: PlatformInputEvent) -> RouterOutcome
+    ensures { λ r. ⌜ r ≡ eventRefusal views event ⌝ }
+{
+    let header = event.header;
+    let device = header.device;
+    let payload = event.payload;
+    let by_device = device_refusal(device);
+    let by_header = header_refusal(views, header);
+    let by_payload = payload_refusal(payload);
+    by_device.then(by_header.then(by_payload))
+}
