@@ -1,7 +1,7 @@
 -- The claims about the router: soundness by its parts, releases by what a test keeps, and the release of all by the laws of panel order.
 use Prim.Native.Nat.{ℕ, _≤_, _<_}
 use mathlib.Core.Path.{_≡_, refl, sym, ap, _∙_}
-use mathlib.Core.Bool.{Bool, true, false, cond, not, _&&_, _||_}
+use mathlib.Core.Bool.{Bool, true, false, cond, not, _||_}
 use mathlib.Core.List.{List, [], _∷_}
 use mathlib.Core.Option.{Option, none, some}
 use native.Mathlib.Omega.{arith}
@@ -10,8 +10,7 @@ use lib.Dec.{ltb, eqb}
 use lib.ListN.{length}
 use Rattle.lists.specs.Lists.{keep, first, all}
 use Rattle.lists.specs.Tables.{entriesOf, packed}
-use Rattle.lists.specs.Maps.{rising}
-use Rattle.lists.proofs.ListLaws.{by-test, clash, and-left, and-right, and-both, length-keep}
+use Rattle.lists.proofs.ListLaws.{by-test, clash, and-both, length-keep}
 use Rattle.lists.proofs.RisingLaws.{Over, Sorted, rising-sorted}
 use Rattle.lists.proofs.TableLaws.{entries-packed}
 use Rattle.handles.specs.Handles.{sameHandle}
@@ -27,23 +26,18 @@ use Rattle.maps.specs.declared.keys.InputDeviceId.{InputDeviceId}
 use Rattle.maps.specs.declared.bindings.Binding.{Binding}
 use Rattle.maps.specs.declared.sequences.DeviceSequence.{DeviceSequence}
 use Rattle.maps.proofs.MapTableLaws as maps
-use Rattle.composition_state.specs.Errors.{isAccepted}
-use Rattle.composition_state.specs.Surfaces.{surfaceRefusal}
-use Rattle.composition_state.specs.declared.error.Outcome.{Outcome}
 use Rattle.composition_state.specs.declared.error.Outcome.the-variants.{Accepted}
 use Rattle.composition_state.specs.declared.surface.SurfaceTable.{SurfaceTable}
-use Rattle.input_router.specs.declared.order.Order.{Order}
 use Rattle.input_router.specs.declared.order.Order.the-variants as order
 use Rattle.input_router.specs.declared.router.PlatformInputRouter.{PlatformInputRouter}
-use Rattle.input_router.specs.declared.view_releases.OptionalPress.{OptionalPress}
 use Rattle.input_router.specs.declared.view_releases.OptionalPress.the-variants.{None, Some}
 use Rattle.input_router.specs.Router.{isStarted, startOutcome, emptyRouter, started, withBindings, withSequences, withTimestamp, pressesOf}
 use Rattle.input_router.specs.Damage.{isRouterSound}
 use Rattle.input_router.specs.Order.{sequenceEntry, hasPlace, lastOf, isOld, orderOf, recorded}
-use Rattle.input_router.specs.Presses.{press, heldBy, hasRoom, opened}
-use Rattle.input_router.specs.ReleaseLists.{releases, isOn, byPanel, inPanelOrder}
+use Rattle.input_router.specs.Presses.{press, heldBy, hasRoom, opened, ended}
+use Rattle.input_router.specs.ReleaseLists.{releases, isOn, byPanel}
 use Rattle.input_router.specs.Releases.{isOfDevice, releaseSurface, releaseAll, withoutDevicePresses, withoutDevice}
-use Rattle.input_router.specs.ViewReleases.{kindOf, isClosed, pressOf, firstClosed, closedRefusal, isOfView, isTaken, releaseViewTo, releaseView}
+use Rattle.input_router.specs.ViewReleases.{kindOf, isClosed, pressOf, firstClosed, closedRefusal, isOfView, isTaken, releaseView}
 use Rattle.input_router.specs.Claims.{RouterClaims}
 use Rattle.input_router.proofs.KeepLaws.{keep-in, keep-apart}
 use Rattle.input_router.proofs.ReleaseListLaws.{by-panel-length, by-panel-keeps, by-panel-ordered}
@@ -107,6 +101,18 @@ opened-held : (r : PlatformInputRouter) (k : BindingKey) (h : GenerationalHandle
 opened-held r k h s room =
     rw (sound.opened-accepted r k h (sound.parts r s) room, entries-packed bindings _)
     (ap surfaceOf (maps.claims keyOfBinding .find-inserted (press k h) (pressesOf r)))
+
+opened-others : (r : PlatformInputRouter) (j k : BindingKey) (h : GenerationalHandle) → keySame (bindingKey j) (bindingKey k) ≡ false → heldBy (opened r k h) j ≡ heldBy r j
+opened-others r j k h n = by-test (accepts bindings keyOfBinding (press k h) (r .bindings))
+    (λ a. rw (a, entries-packed bindings _) (ap surfaceOf (maps.claims keyOfBinding .find-insert-other (bindingKey j) (press k h) (pressesOf r) n)))
+    (λ a. rw a)
+
+-- ---- a press that is ended
+ended-held : (r : PlatformInputRouter) (k : BindingKey) → heldBy (ended r k) k ≡ O.None
+ended-held r k = rw (entries-packed bindings _) (ap surfaceOf (maps.claims keyOfBinding .find-removed (bindingKey k) (pressesOf r)))
+
+ended-others : (r : PlatformInputRouter) (j k : BindingKey) → keySame (bindingKey j) (bindingKey k) ≡ false → heldBy (ended r k) j ≡ heldBy r j
+ended-others r j k n = rw (entries-packed bindings _) (ap surfaceOf (maps.claims keyOfBinding .find-remove-other (bindingKey j) (bindingKey k) (pressesOf r) n))
 
 -- ---- the release of a panel and of all
 none-left : (r : PlatformInputRouter) (h : GenerationalHandle) → isRouterSound r ≡ true → keep (isOn h) (pressesOf (releaseSurface r h .router)) ≡ []
@@ -211,6 +217,9 @@ claims = record {
   view-sound = view-sound;
   in-order = in-order;
   opened-held = opened-held;
+  opened-others = opened-others;
+  ended-held = ended-held;
+  ended-others = ended-others;
   none-left = none-left;
   others-stay = others-stay;
   all-none-left = all-none-left;

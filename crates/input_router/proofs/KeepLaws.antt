@@ -1,6 +1,6 @@
 -- What a test keeps of what another kept, and lists of which all pass a test: by induction on the list.
 use mathlib.Core.Path.{_≡_, refl, _∙_}
-use mathlib.Core.Bool.{Bool, true, false, not, _&&_}
+use mathlib.Core.Bool.{Bool, true, false}
 use mathlib.Core.List.{List, [], _∷_, _++_}
 use Rattle.lists.specs.Lists.{keep, all}
 use Rattle.lists.proofs.ListLaws.{by-test, clash, and-left, and-right, and-both, all-append}

@@ -1,7 +1,7 @@
 -- What an insertion into the known devices answers, by whether the device was accepted.
-use mathlib.Core.Path.{_≡_, refl, sym, ap, _∙_}
-use mathlib.Core.Bool.{Bool, true, false}
-use Rattle.lists.proofs.ListLaws.{by-test, clash}
+use mathlib.Core.Path.{_≡_, ap, _∙_}
+use mathlib.Core.Bool.{true}
+use Rattle.lists.proofs.ListLaws.{by-test}
 use Rattle.maps.specs.MapTables.{accepts, inserted}
 use Rattle.maps.specs.Sequences.{sequences, sequenceKey, insertionOf}
 use Rattle.maps.specs.declared.sequences.DeviceSequence.{DeviceSequence}

@@ -1,7 +1,7 @@
 -- Lists of releases: a table has 640 places, read off what its type owns; presses go panel by panel as the least panel's come first; captures are added one by one.
 use Prim.Native.Nat.{ℕ, _+_, _≤_, _<_}
 use mathlib.Core.Path.{_≡_, refl, sym, ap, _∙_}
-use mathlib.Core.Bool.{Bool, true, false, cond, not, _&&_}
+use mathlib.Core.Bool.{Bool, true, false, cond, not}
 use mathlib.Core.List.{List, [], _∷_, _++_, append-assoc, append-nil}
 use native.Mathlib.Numerals.{add-one}
 use native.Mathlib.Omega.{arith}
@@ -10,9 +10,9 @@ use lib.Seq.{take-suc}
 use mir.Val.{Val}
 use denote.Laws.{Is}
 use denote.Struct.Laws as LL
-use Rattle.lists.specs.Lists.{keep, first, all}
+use Rattle.lists.specs.Lists.{keep, all}
 use Rattle.lists.specs.Tables.{Shape, entriesOf, packed}
-use Rattle.lists.proofs.ListLaws.{by-test, clash, and-left, and-right, and-both, keep-append, keep-split, length-keep}
+use Rattle.lists.proofs.ListLaws.{by-test, clash, and-left, and-right, and-both, keep-append, keep-split}
 use Rattle.lists.proofs.TableLaws as table
 use Rattle.handles.specs.Handles.{sameHandle, handleLt}
 use Rattle.handles.specs.declared.handle.GenerationalHandle.{GenerationalHandle}
@@ -26,7 +26,7 @@ use Rattle.composition_input.specs.Captures.{captureList}
 use Rattle.composition_input.proofs.answer.CaptureList as C
 use Rattle.composition_input.proofs.answer.CaptureList.Laws as C′
 use Rattle.input_router.specs.declared.release_list.Releases.{Releases}
-use Rattle.input_router.specs.ReleaseLists.{releases, isOn, isNotBelow, IsLeast, placed, byPanel, inPanelOrder, isListed, captureRelease, addCapture, addCaptures}
+use Rattle.input_router.specs.ReleaseLists.{releases, isOn, isNotBelow, IsLeast, placed, byPanel, inPanelOrder, isListed, addCapture, addCaptures}
 use Rattle.input_router.proofs.KeepLaws.{keep-in, keep-apart, all-kept, all-implied, keep-all, all-keep, all-both}
 use Rattle.input_router.proofs.release_list.Releases as T
 use Rattle.input_router.proofs.release_list.Releases.Laws as T′
@@ -189,10 +189,14 @@ least-more h l e i = by-test (handleLt (e .surface) h)
     (λ t.
     let n : not (handleLt h (e .surface)) ≡ true = by-test (handleLt h (e .surface))
     (λ u. clash (handles .trans h (e .surface) h u t) (handles .irrefl h)) (λ u. ap not u) in
-    rw t (all-both (isNotBelow (e .surface)) l (e ∷ []) (all-implied (isNotBelow h) (isNotBelow (e .surface)) (not-below-less h (e .surface) n) l (i .0)) (least-one e .0),
-    rw (keep-append (isOn (e .surface)) l (e ∷ []), length-append) (omega (arith, least-one e .1))))
-    (λ t. rw t (all-both (isNotBelow h) l (e ∷ []) (i .0) (and-both (ap not t) refl),
-    rw (keep-append (isOn h) l (e ∷ []), length-append) (omega (arith, i .1))))
+    rw t (
+      all-both (isNotBelow (e .surface)) l (e ∷ []) (all-implied (isNotBelow h) (isNotBelow (e .surface)) (not-below-less h (e .surface) n) l (i .0)) (least-one e .0),
+      rw (keep-append (isOn (e .surface)) l (e ∷ []), length-append) (omega (arith, least-one e .1)),
+    ))
+    (λ t. rw t (
+      all-both (isNotBelow h) l (e ∷ []) (i .0) (and-both (ap not t) refl),
+      rw (keep-append (isOn h) l (e ∷ []), length-append) (omega (arith, i .1)),
+    ))
 
 take-more : {E : Type 0} (l : List E) (i : ℕ) (d : E) → i < length l → take (i + 1) l ≡ take i l ++ (getD l i d ∷ [])
 take-more l i d h = rw (add-one, take-suc l i d h)

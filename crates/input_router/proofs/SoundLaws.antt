@@ -1,7 +1,7 @@
 -- Soundness of a router, taken apart and put together; a router with fewer presses, or with one more where there is room, stays sound.
-use Prim.Native.Nat.{ℕ, _+_, _≤_}
-use mathlib.Core.Path.{_≡_, refl, sym, ap, _∙_}
-use mathlib.Core.Bool.{Bool, true, false, cond, _&&_, _||_}
+use Prim.Native.Nat.{ℕ, _≤_}
+use mathlib.Core.Path.{_≡_, refl, sym}
+use mathlib.Core.Bool.{Bool, true, false, _&&_, _||_}
 use mathlib.Core.List.{List, []}
 use mathlib.Core.Option.{Option, none, some}
 use native.Mathlib.Omega.{arith}
@@ -24,7 +24,7 @@ use Rattle.maps.specs.declared.sequences.DeviceSequence.{DeviceSequence}
 use Rattle.maps.proofs.MapTableLaws as maps
 use Rattle.handles.specs.declared.handle.GenerationalHandle.{GenerationalHandle}
 use Rattle.input_router.specs.declared.router.PlatformInputRouter.{PlatformInputRouter}
-use Rattle.input_router.specs.Router.{isStarted, startOutcome, emptyRouter, started, withBindings, withSequences, withTimestamp, pressesOf}
+use Rattle.input_router.specs.Router.{isStarted, startOutcome, emptyRouter, withBindings, withSequences, withTimestamp, pressesOf}
 use Rattle.input_router.specs.Damage.{limitSound, countsSound, keysSound, isRouterSound}
 use Rattle.input_router.specs.Presses.{press, hasRoom, opened}
 

@@ -10,6 +10,7 @@ use Rattle.lists.specs.Tables.{entriesOf}
 use Rattle.handles.specs.Handles.{sameHandle}
 use Rattle.handles.specs.declared.handle.GenerationalHandle.{GenerationalHandle}
 use Rattle.handles.specs.declared.handle.OptionalHandle.the-variants as O
+use Rattle.maps.specs.Keys.{bindingKey, keySame}
 use Rattle.maps.specs.MapTables.{inserted, retained}
 use Rattle.maps.specs.Bindings.{bindings}
 use Rattle.maps.specs.Sequences.{sequences, sequenceKey}
@@ -44,8 +45,12 @@ pub record RouterClaims : Type 0 where
   -- an event in order is recorded
   pub in-order : (r : PlatformInputRouter) (d : InputDeviceId) (n time : ℕ) → orderOf r d n time ≡ InOrder
       → recorded r d n time ≡ withTimestamp time (withSequences (inserted sequences sequenceKey (sequenceEntry d n) (r .«device_sequences»)) r)
-  -- document 01, Presses: where there is room the press is open at its panel
+  -- document 01, Presses: where there is room the press is open at its panel, and the others stay
   pub opened-held : (r : PlatformInputRouter) (k : BindingKey) (h : GenerationalHandle) → isRouterSound r ≡ true → hasRoom r k ≡ true → heldBy (opened r k h) k ≡ O.Some h
+  pub opened-others : (r : PlatformInputRouter) (j k : BindingKey) (h : GenerationalHandle) → keySame (bindingKey j) (bindingKey k) ≡ false → heldBy (opened r k h) j ≡ heldBy r j
+  -- an ended press is open nowhere, and the others stay
+  pub ended-held : (r : PlatformInputRouter) (k : BindingKey) → heldBy (ended r k) k ≡ O.None
+  pub ended-others : (r : PlatformInputRouter) (j k : BindingKey) → keySame (bindingKey j) (bindingKey k) ≡ false → heldBy (ended r k) j ≡ heldBy r j
   -- a released panel holds no press, and the presses of every other panel stay
   pub none-left : (r : PlatformInputRouter) (h : GenerationalHandle) → isRouterSound r ≡ true → keep (isOn h) (pressesOf (releaseSurface r h .router)) ≡ []
   pub others-stay : (r : PlatformInputRouter) (h g : GenerationalHandle) → isRouterSound r ≡ true → sameHandle h g ≡ false

@@ -69,7 +69,8 @@ impl PlatformInputRouter {
         let insertion = known.insert(DeviceSequence { device, sequence });
         if insertion.inserted {
             let sequences = insertion.sequences;
-            return self.with_sequences(sequences).with_timestamp(timestamp_micros);
+            return self.with_sequences(sequences)
+                .with_timestamp(timestamp_micros);
         }
         self
     }

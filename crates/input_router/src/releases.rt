@@ -87,6 +87,7 @@ impl PlatformInputRouter {
         ensures { λ r. ⌜ r ≡ withoutDevice self device ⌝ }
     {
         let sequences = self.device_sequences;
-        self.without_device_presses(device).with_sequences(sequences.remove(device))
+        self.without_device_presses(device)
+            .with_sequences(sequences.remove(device))
     }
 }

@@ -1,5 +1,5 @@
 -- `has_place` meets its contract: the device is found, or a place is left.
-use mathlib.Core.Path.{_≡_, sym, ap, _∙_}
+use mathlib.Core.Path.{sym, _∙_}
 use Rattle.maps.specs.Keys.{deviceKey}
 use Rattle.maps.specs.MapTables.{found}
 use Rattle.maps.specs.Sequences.{sequences, sequenceKey}

@@ -1,6 +1,6 @@
 -- `by_panel` meets its contract: what is listed and what is left, panel by panel, is the whole.
-use Prim.Native.Nat.{_≤_, _<_}
-use mathlib.Core.Path.{_≡_, sym, ap, _∙_}
+use Prim.Native.Nat.{_≤_}
+use mathlib.Core.Path.{_≡_, ap, _∙_}
 use mathlib.Core.List.{_++_}
 use lib.ListN.{length}
 use Rattle.lists.specs.Tables.{entriesOf, packed}
@@ -37,7 +37,7 @@ retain-requires : tie.Need-retain-requires Inv-loop μ-loop
 retain-requires c κs = search needs
 
 extend-requires : tie.Need-extend-requires Inv-loop μ-loop
-extend-requires c κs = 
+extend-requires c κs =
     let l = c .before .before .before .loop in
     let s = c .before .least-panel .result in
     (l .inv .0, omega (arith, panel-room (entriesOf bindings (c .before .before .before .before .before .before .args .presses)) (entriesOf releases (l .list)) (entriesOf bindings (l .left)) (l .inv .1), l .inv .3, length-keep (isOn s) (entriesOf bindings (l .left)), ap length (entries-are bindings _ _ (c .retain .ensures))))
@@ -49,13 +49,13 @@ count-requires-2 : tie.Need-count-requires-2 Inv-loop μ-loop
 count-requires-2 c κs = search needs
 
 loop-less : tie.Need-loop-less Inv-loop μ-loop
-loop-less c = 
+loop-less c =
     let l = c .before .before .before .before .before .before .loop in
     let s = c .before .before .before .before .least-panel in
     omega (arith, c .count2 .ensures, ap length (entries-are bindings _ _ (c .before .retain2 .ensures)), keep-split (isOn (s .result)) (entriesOf bindings (l .left)), s .ensures .1, l .inv .2)
 
 loop-again : tie.Need-loop-again Inv-loop μ-loop
-loop-again c = 
+loop-again c =
     let l = c .before .before .before .before .before .before .loop in
     let s = c .before .before .before .before .least-panel in (
       packed-self releases _ _ (c .before .before .extend .ensures),
@@ -65,7 +65,7 @@ loop-again c =
     )
 
 returns : tie.Need-returns Inv-loop μ-loop
-returns c = 
+returns c =
     let l = c .before .loop in
     l .inv .0 ∙ ap (packed releases) (panel-done (entriesOf bindings (c .before .before .before .before .args .presses)) (entriesOf releases (l .list)) (entriesOf bindings (l .left)) (l .inv .1) (omega (arith, l .inv .2)))
 

@@ -26,7 +26,7 @@ element-copy-out-first : tie.Need-element-copy-out-first Inv-loop μ-loop
 element-copy-out-first c = omega arith
 
 loop-holds : tie.Need-loop-holds Inv-loop μ-loop
-loop-holds c = 
+loop-holds c =
     let a = c .before .before .before .args in
     let within : 0 < length (entriesOf bindings (a .t1)) = c .before .before .before .pre in
     (omega arith, omega (arith, few (a .t1) (c .before .before .before .good .0)), least-start (a .t1) _ within)
@@ -47,14 +47,14 @@ loop-less : tie.Need-loop-less Inv-loop μ-loop
 loop-less c = omega arith
 
 loop-again : tie.Need-loop-again Inv-loop μ-loop
-loop-again c = 
+loop-again c =
     let a = c .before .before .before .before .before .before .before .before .args in
     let l = c .before .before .before .before .loop in
     let within : l .i < length (entriesOf bindings (a .t1)) = omega arith in
     (omega arith, omega arith, rw (c .lesser .ensures) (least-turn (a .t1) _ (l .i) within (l .least) (l .inv .2)))
 
 returns : tie.Need-returns Inv-loop μ-loop
-returns c = 
+returns c =
     let i-is : c .before .loop .i ≡ length (entriesOf bindings (c .before .before .before .before .before .args .t1)) = omega arith in
     rw (sym (take-length (entriesOf bindings (c .before .before .before .before .before .args .t1))), sym i-is) (c .before .loop .inv .2)
 

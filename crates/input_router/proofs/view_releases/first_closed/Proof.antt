@@ -34,7 +34,7 @@ is-closed-requires : tie.Need-is-closed-requires Inv-loop μ-loop
 is-closed-requires c κs = search needs
 
 returns : tie.Need-returns Inv-loop μ-loop
-returns c = 
+returns c =
     let l = c .before .before .before .before .loop in
     let a = c .before .before .before .before .before .before .args in
     let within : l .i < length (entriesOf bindings (a .t1)) = omega arith in
@@ -47,14 +47,14 @@ loop-less : tie.Need-loop-less Inv-loop μ-loop
 loop-less c = omega arith
 
 loop-again : tie.Need-loop-again Inv-loop μ-loop
-loop-again c = 
+loop-again c =
     let l = c .before .before .before .before .loop in
     let a = c .before .before .before .before .before .before .args in
     let within : l .i < length (entriesOf bindings (a .t1)) = omega arith in
     (omega arith, omega arith, search-next bindings (a .t1) (isClosed (a .surfaces)) (l .i) _ within (l .inv .2) (sym (c .before .is-closed .ensures) ∙ c .if1 .left))
 
 returns-2 : tie.Need-returns-2 Inv-loop μ-loop
-returns-2 c = 
+returns-2 c =
     let a = c .before .before .before .args in
     sym (ap pressOf (search-end bindings (a .t1) (isClosed (a .surfaces)) (c .before .loop .i) (c .before .loop .inv .2) (omega arith)))
 

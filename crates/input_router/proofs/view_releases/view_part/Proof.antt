@@ -51,7 +51,7 @@ is-chosen-requires : tie.Need-is-chosen-requires Inv-loop μ-loop
 is-chosen-requires c κs = search needs
 
 push-requires : tie.Need-push-requires Inv-loop μ-loop
-push-requires c κs = 
+push-requires c κs =
     let a = c .before .before .before .before .before .before .before .args in
     let l = c .before .before .before .before .loop in
     let p = chosen (a .surfaces) (a .view) (a .stop) (a .wants-taken) in
@@ -66,7 +66,7 @@ loop-less : tie.Need-loop-less Inv-loop μ-loop
 loop-less c = omega arith
 
 loop-again : tie.Need-loop-again Inv-loop μ-loop
-loop-again c = 
+loop-again c =
     let a = c .before .before .before .before .before .before .before .args in
     let l = c .before .before .before .before .loop in
     let p = chosen (a .surfaces) (a .view) (a .stop) (a .wants-taken) in
@@ -81,7 +81,7 @@ loop-again c =
     )
 
 returns : tie.Need-returns Inv-loop μ-loop
-returns c = 
+returns c =
     let i-is : c .before .loop .i ≡ length (entriesOf bindings (c .before .before .before .before .args .t1)) = omega arith in
     c .before .loop .inv .2 ∙ rw (i-is, take-length)
 

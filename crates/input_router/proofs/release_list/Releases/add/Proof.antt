@@ -19,7 +19,7 @@ push-requires : tie.Need-push-requires
 push-requires c κs = omega (arith, ap (λ (t : Releases). t .len) (c .before .before .before .before .pre .0) ∙ len-packed releases _, c .before .before .before .before .pre .1)
 
 returns-2 : tie.Need-returns-2
-returns-2 c = 
+returns-2 c =
     let s = c .before .before .before .before .before in
     let e = captureRelease (s .args .capture) in
     rw (sym (c .before .before .before .before .has-pair .ensures) ∙ c .before .before .before .if1 .left)

@@ -35,7 +35,7 @@ element-copy-out-entry : tie.Need-element-copy-out-entry Inv-loop μ-loop
 element-copy-out-entry c = omega arith
 
 push-requires : tie.Need-push-requires Inv-loop μ-loop
-push-requires c κs = 
+push-requires c κs =
     let a = c .before .before .before .before .args in
     let l = c .before .before .loop in
     let within : l .i < length (entriesOf bindings (a .t2)) = omega arith in
@@ -48,14 +48,14 @@ loop-less : tie.Need-loop-less Inv-loop μ-loop
 loop-less c = omega arith
 
 loop-again : tie.Need-loop-again Inv-loop μ-loop
-loop-again c = 
+loop-again c =
     let a = c .before .before .before .before .before .args in
     let l = c .before .before .before .loop in
     let within : l .i < length (entriesOf bindings (a .t2)) = omega arith in
     (omega arith, omega arith, c .push .ensures ∙ rw (l .inv .2) (copy-turn releases bindings (a .t2) (l .i) _ within (entriesOf releases (a .self)) (c .before .before .before .before .before .pre .1)))
 
 returns : tie.Need-returns Inv-loop μ-loop
-returns c = 
+returns c =
     let i-is : c .before .loop .i ≡ length (entriesOf bindings (c .before .before .before .args .t2)) = omega arith in
     c .before .loop .inv .2 ∙ rw (i-is, take-length)
 

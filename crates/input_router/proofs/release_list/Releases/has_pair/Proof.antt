@@ -34,7 +34,7 @@ is-pair-requires : tie.Need-is-pair-requires Inv-loop μ-loop
 is-pair-requires c κs = search needs
 
 returns : tie.Need-returns Inv-loop μ-loop
-returns c = 
+returns c =
     let l = c .before .before .before .before .loop in
     let a = c .before .before .before .before .before .before .args in
     let within : l .i < length (entriesOf releases (a .t1)) = omega arith in
@@ -47,14 +47,14 @@ loop-less : tie.Need-loop-less Inv-loop μ-loop
 loop-less c = omega arith
 
 loop-again : tie.Need-loop-again Inv-loop μ-loop
-loop-again c = 
+loop-again c =
     let l = c .before .before .before .before .loop in
     let a = c .before .before .before .before .before .before .args in
     let within : l .i < length (entriesOf releases (a .t1)) = omega arith in
     (omega arith, omega arith, search-next releases (a .t1) (isPair (a .capture)) (l .i) _ within (l .inv .2) (sym (c .before .is-pair .ensures) ∙ c .if1 .left))
 
 returns-2 : tie.Need-returns-2 Inv-loop μ-loop
-returns-2 c = 
+returns-2 c =
     let a = c .before .before .before .args in
     sym (ap isSome (search-end releases (a .t1) (isPair (a .capture)) (c .before .loop .i) (c .before .loop .inv .2) (omega arith)))
 

@@ -1,11 +1,8 @@
 -- `PlatformInputRouter::has_room` meets its contract: the press is found, or a place is left.
-use mathlib.Core.Path.{_≡_, sym, ap, _∙_}
-use mathlib.Core.Option.{Option}
-use lib.Dec.{ltb}
+use mathlib.Core.Path.{sym, _∙_}
 use Rattle.maps.specs.Keys.{bindingKey}
 use Rattle.maps.specs.MapTables.{found}
-use Rattle.maps.specs.Bindings.{bindings, keyOfBinding, surfaceOf}
-use Rattle.maps.specs.declared.bindings.Binding.{Binding}
+use Rattle.maps.specs.Bindings.{bindings, keyOfBinding}
 use Rattle.maps.proofs.BindingLaws.{some-found, none-found}
 use borrow.Author.Needs.{needs}
 use Rattle.input_router.proofs.router.PlatformInputRouter.has_room.Statement.{statement}

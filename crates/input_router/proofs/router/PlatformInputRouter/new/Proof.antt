@@ -15,7 +15,7 @@ empty-requires : tie.Need-empty-requires
 empty-requires c κs = search needs
 
 returns : tie.Need-returns
-returns c = 
+returns c =
     let d = c .before .before .before in
     let is = sym (c .before .before .is-accepted .ensures ∙ ap isStarted (d .start-outcome .ensures)) ∙ c .before .if1 .taken in
     rw (c .empty .ensures, d .start-outcome .ensures, is)
@@ -24,7 +24,7 @@ empty-requires-2 : tie.Need-empty-requires-2
 empty-requires-2 c κs = search needs
 
 returns-2 : tie.Need-returns-2
-returns-2 c = 
+returns-2 c =
     let d = c .before .before .before in
     let is = sym (c .before .before .is-accepted .ensures ∙ ap isStarted (d .start-outcome .ensures)) ∙ c .before .if1 .left in
     rw (c .empty2 .ensures, d .start-outcome .ensures, is)

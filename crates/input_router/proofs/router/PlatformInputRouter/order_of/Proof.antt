@@ -1,5 +1,4 @@
 -- `PlatformInputRouter::order_of` meets its contract: the tests, in their order.
-use mathlib.Core.Path.{_≡_, sym, ap, _∙_}
 use borrow.Author.Tests.{eq-eqb, ne-eqb, lt-ltb, le-ltb}
 use borrow.Author.Needs.{needs}
 use Rattle.input_router.proofs.router.PlatformInputRouter.order_of.Statement.{statement}

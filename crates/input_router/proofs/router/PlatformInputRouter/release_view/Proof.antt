@@ -26,7 +26,7 @@ view-part-requires-2 c κs = search needs
 
 returns : tie.Need-returns
 unfolding releaseView
-returns c = 
+returns c =
     let is = sym (c .before .before .is-accepted .ensures ∙ ap isAccepted (c .before .before .before .before .before .closed-refusal .ensures ∙ ap (closedRefusal (c .before .before .before .before .before .before .before .before .args .surfaces)) (c .before .before .before .before .before .before .first-closed .ensures))) ∙ c .before .if1 .taken in
     rw (c .view-part2 .ensures, c .before .before .before .with-bindings .ensures, c .before .before .before .before .view-part .ensures, c .before .before .before .before .before .closed-refusal .ensures, c .before .before .before .before .before .before .first-closed .ensures, is)
 
@@ -35,7 +35,7 @@ new-requires c κs = search needs
 
 returns-2 : tie.Need-returns-2
 unfolding releaseView
-returns-2 c = 
+returns-2 c =
     let is = sym (c .before .before .is-accepted .ensures ∙ ap isAccepted (c .before .before .before .before .before .closed-refusal .ensures ∙ ap (closedRefusal (c .before .before .before .before .before .before .before .before .args .surfaces)) (c .before .before .before .before .before .before .first-closed .ensures))) ∙ c .before .if1 .left in
     rw (c .new .ensures, c .before .before .before .with-bindings .ensures, c .before .before .before .before .view-part .ensures, c .before .before .before .before .before .closed-refusal .ensures, c .before .before .before .before .before .before .first-closed .ensures, is)
 
