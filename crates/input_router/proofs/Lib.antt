@@ -1,0 +1,5 @@
+pub mod KeepLaws
+pub mod ReleaseListLaws
+pub mod OrderLaws
+pub mod SoundLaws
+pub mod ClaimLaws

@@ -1,0 +1,76 @@
+-- `Releases::extend` meets its contract: after i turns the list holds its own entries and the first i presses.
+use Prim.Native.Nat.{_≤_, _<_, _-_}
+use mathlib.Core.Path.{_≡_, sym, ap, _∙_}
+use mathlib.Core.List.{_++_, append-nil}
+use lib.ListN.{length, take}
+use lib.Seq.{take-length}
+use Rattle.lists.specs.Tables.{entriesOf, packed}
+use Rattle.lists.proofs.TableLaws.{len-packed}
+use Rattle.maps.specs.Bindings.{bindings}
+use Rattle.maps.proofs.BindingLaws.{few}
+use Rattle.composition_input.proofs.CaptureListLaws.{copy-room, copy-turn}
+use Rattle.input_router.specs.declared.release_list.Releases.{Releases}
+use Rattle.input_router.specs.ReleaseLists.{releases}
+use borrow.Author.Needs.{needs}
+use native.Mathlib.Omega.{arith}
+use Rattle.input_router.proofs.release_list.Releases.extend.Statement.{statement}
+use Rattle.input_router.proofs.release_list.Releases.extend.Tie as tie
+
+abbrev Inv-loop : tie.InvT-loop
+Inv-loop from next₀ n i₀ next i = (i ≤ n) × (n ≤ 128) × (next ≡ packed releases (entriesOf releases next₀ ++ take i (entriesOf bindings from)))
+
+abbrev μ-loop : tie.MeasureT-loop
+μ-loop from next₀ n i₀ next i = n - i
+
+count-requires : tie.Need-count-requires Inv-loop μ-loop
+count-requires c κs = search needs
+
+loop-holds : tie.Need-loop-holds Inv-loop μ-loop
+loop-holds c = (omega arith, omega (arith, few (c .before .args .t2) (c .before .good .1 .0)), c .before .pre .0 ∙ ap (packed releases) (sym (append-nil _)))
+
+mul-entry : tie.Need-mul-entry Inv-loop μ-loop
+mul-entry c = omega arith
+
+element-copy-out-entry : tie.Need-element-copy-out-entry Inv-loop μ-loop
+element-copy-out-entry c = omega arith
+
+push-requires : tie.Need-push-requires Inv-loop μ-loop
+push-requires c κs =
+    let a = c .before .before .before .before .args in
+    let l = c .before .before .loop in
+    let within : l .i < length (entriesOf bindings (a .t2)) = omega arith in
+    omega (arith, ap (λ (t : Releases). t .len) (l .inv .2) ∙ len-packed releases _, copy-room releases bindings (a .t2) (l .i) (bindings .blank) within (entriesOf releases (a .self)) (c .before .before .before .before .pre .1))
+
+add-i : tie.Need-add-i Inv-loop μ-loop
+add-i c = omega arith
+
+loop-less : tie.Need-loop-less Inv-loop μ-loop
+loop-less c = omega arith
+
+loop-again : tie.Need-loop-again Inv-loop μ-loop
+loop-again c =
+    let a = c .before .before .before .before .before .args in
+    let l = c .before .before .before .loop in
+    let within : l .i < length (entriesOf bindings (a .t2)) = omega arith in
+    (omega arith, omega arith, c .push .ensures ∙ rw (l .inv .2) (copy-turn releases bindings (a .t2) (l .i) _ within (entriesOf releases (a .self)) (c .before .before .before .before .before .pre .1)))
+
+returns : tie.Need-returns Inv-loop μ-loop
+returns c =
+    let i-is : c .before .loop .i ≡ length (entriesOf bindings (c .before .before .before .args .t2)) = omega arith in
+    c .before .loop .inv .2 ∙ rw (i-is, take-length)
+
+pub extend-spec : {M : Type 1} → statement M
+extend-spec =
+    tie.close
+    (tie.spec
+    Inv-loop
+    μ-loop
+    count-requires
+    loop-holds
+    mul-entry
+    element-copy-out-entry
+    push-requires
+    add-i
+    loop-less
+    loop-again
+    returns)

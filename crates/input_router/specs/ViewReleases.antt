@@ -1,0 +1,67 @@
+-- Document 01, Release order, of the view's panels: a view release that meets a closed owner has dropped the kinds before it.
+use Prim.Native.Nat.{ℕ}
+use mathlib.Core.Bool.{Bool, true, cond, not, _&&_}
+use mathlib.Core.List.{List, []}
+use mathlib.Core.Option.{Option, none, some}
+use lib.Dec.{ltb}
+use Rattle.lists.specs.Lists.{keep, first}
+use Rattle.lists.specs.Tables.{packed}
+use Rattle.handles.specs.Handles.{sameHandle}
+use Rattle.handles.specs.declared.handle.GenerationalHandle.{GenerationalHandle}
+use Rattle.maps.specs.Bindings.{bindings, keyOfBinding}
+use Rattle.maps.specs.declared.bindings.Binding.{Binding}
+use Rattle.composition_state.specs.Errors.{isAccepted}
+use Rattle.composition_state.specs.Surfaces.{descriptorOf, surfaceRefusal}
+use Rattle.composition_state.specs.declared.error.Outcome.{Outcome}
+use Rattle.composition_state.specs.declared.error.Outcome.the-variants.{Accepted}
+use Rattle.composition_state.specs.declared.surface.SurfaceTable.{SurfaceTable}
+use Rattle.input_router.specs.declared.router.PlatformInputRouter.{PlatformInputRouter}
+use Rattle.input_router.specs.declared.view_releases.OptionalPress.{OptionalPress}
+use Rattle.input_router.specs.declared.view_releases.OptionalPress.the-variants.{None, Some}
+use Rattle.input_router.specs.declared.view_releases.ViewReleased.{ViewReleased}
+use Rattle.input_router.specs.Router.{withBindings, pressesOf}
+
+-- pointers 0, keys 1, gamepads 2
+abbrev pub kindOf : Binding → ℕ
+kindOf e = keyOfBinding e .kind
+
+-- the press's panel is not live
+abbrev pub isClosed : SurfaceTable → Binding → Bool
+isClosed surfaces e = not (isAccepted (surfaceRefusal surfaces (e .surface)))
+
+abbrev pub pressOf : Option Binding → OptionalPress
+pressOf none = None
+pressOf (some e) = Some e
+
+-- the first press whose panel is closed: in table order, so of the first kind that has one
+abbrev pub firstClosed : SurfaceTable → List Binding → OptionalPress
+firstClosed surfaces l = pressOf (first (isClosed surfaces) l)
+
+-- 11/12 of that panel
+abbrev pub closedRefusal : SurfaceTable → OptionalPress → Outcome
+closedRefusal surfaces None = Accepted
+closedRefusal surfaces (Some e) = surfaceRefusal surfaces (e .surface)
+
+-- the kinds before that of the closed panel's press are dropped, and all where no panel is closed
+abbrev pub isReached : OptionalPress → Binding → Bool
+isReached None e = true
+isReached (Some stop) e = ltb (kindOf e) (kindOf stop)
+
+-- a press of the view's panels
+abbrev pub isOfView : SurfaceTable → GenerationalHandle → Binding → Bool
+isOfView surfaces view e = sameHandle (descriptorOf surfaces (e .surface) .view) view
+
+abbrev pub isTaken : SurfaceTable → GenerationalHandle → OptionalPress → Binding → Bool
+isTaken surfaces view stop e = isReached stop e && isOfView surfaces view e
+
+-- a refused release lists nothing
+abbrev pub releaseViewTo : PlatformInputRouter → SurfaceTable → GenerationalHandle → OptionalPress → ViewReleased
+releaseViewTo r surfaces view stop =
+    record {
+      outcome = closedRefusal surfaces stop;
+      presses = packed bindings (cond (isAccepted (closedRefusal surfaces stop)) (keep (isTaken surfaces view stop) (pressesOf r)) []);
+      router = withBindings (packed bindings (keep (λ e. not (isTaken surfaces view stop e)) (pressesOf r))) r;
+    }
+
+unfoldable pub releaseView : PlatformInputRouter → SurfaceTable → GenerationalHandle → ViewReleased
+releaseView r surfaces view = releaseViewTo r surfaces view (firstClosed surfaces (pressesOf r))

@@ -1,0 +1,21 @@
+// Whether a router is one that its calls can have made.
+ghost use mathlib.Core.Path.{_≡_};
+ghost use Rattle.input_router.specs.Damage.{isRouterSound};
+use crate::router::PlatformInputRouter;
+use crate::router::start_outcome;
+use lists::both;
+
+impl PlatformInputRouter {
+    pub fn is_sound(self) -> bool
+        ensures { λ r. ⌜ r ≡ isRouterSound self ⌝ }
+    {
+        let limit = self.max_active_bindings;
+        let bindings = self.bindings;
+        let sequences = self.device_sequences;
+        let allowed = start_outcome(limit).is_accepted();
+        let in_table = both(bindings.len <= 128, sequences.len <= 32);
+        let counted = both(in_table, (bindings.len as u64) <= limit);
+        let rising = both(bindings.is_rising(), sequences.is_rising());
+        both(allowed, both(counted, rising))
+    }
+}

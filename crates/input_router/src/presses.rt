@@ -1,0 +1,47 @@
+// The open presses: which panel holds one, whether one more may be opened, and how they are opened, moved and ended.
+ghost use mathlib.Core.Path.{_≡_};
+ghost use Rattle.input_router.specs.Presses.{heldBy, hasRoom, opened, ended};
+use crate::router::PlatformInputRouter;
+use handles::handle::GenerationalHandle;
+use handles::handle::OptionalHandle;
+use maps::bindings::Binding;
+use maps::keys::BindingKey;
+
+impl PlatformInputRouter {
+    // The panel that holds the press.
+    pub fn held(self, key: BindingKey) -> OptionalHandle
+        ensures { λ r. ⌜ r ≡ heldBy self key ⌝ }
+    {
+        let bindings = self.bindings;
+        bindings.get(key)
+    }
+
+    // Whether the press is open already, or one more may be opened.
+    pub fn has_room(self, key: BindingKey) -> bool
+        ensures { λ r. ⌜ r ≡ hasRoom self key ⌝ }
+    {
+        let bindings = self.bindings;
+        let holder = bindings.get(key);
+        match holder {
+            OptionalHandle::Some(_) => true,
+            OptionalHandle::None => (bindings.count() as u64) < self.max_active_bindings,
+        }
+    }
+
+    // The router with the press opened at a panel, or moved to it.
+    pub fn opened(self, key: BindingKey, surface: GenerationalHandle) -> Self
+        ensures { λ r. ⌜ r ≡ opened self key surface ⌝ }
+    {
+        let bindings = self.bindings;
+        let insertion = bindings.insert(Binding { key, surface });
+        let next = insertion.bindings;
+        self.with_bindings(next)
+    }
+
+    pub fn ended(self, key: BindingKey) -> Self
+        ensures { λ r. ⌜ r ≡ ended self key ⌝ }
+    {
+        let bindings = self.bindings;
+        self.with_bindings(bindings.remove(key))
+    }
+}

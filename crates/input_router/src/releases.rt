@@ -1,0 +1,93 @@
+// Releases by the router: of a panel, of all panels, of a device.
+ghost use mathlib.Core.Path.{_≡_};
+ghost use Rattle.input_router.specs.Releases.{releaseSurface, releaseAll, devicePresses, withoutDevicePresses, withoutDevice};
+use crate::release_list::Releases;
+use crate::release_list::by_panel;
+use crate::router::PlatformInputRouter;
+use handles::handle::GenerationalHandle;
+use maps::bindings::Bindings;
+use maps::keys::InputDeviceId;
+use maps::sequences::DeviceSequences;
+use maps::tests::EntryTest;
+use maps::tests::KeyTest;
+
+// The answer of a router release: a damaged router is refused and stays as it came.
+pub struct Released {
+    pub is_damaged: bool,
+    pub releases: Releases,
+    pub router: PlatformInputRouter,
+}
+
+impl PlatformInputRouter {
+    // Ends the presses of a panel.
+    pub fn release_surface(self, surface: GenerationalHandle) -> Released
+        ensures { λ r. ⌜ r ≡ releaseSurface self surface ⌝ }
+    {
+        if self.is_sound() {
+            let bindings = self.bindings;
+            let taken = bindings.retain(EntryTest::OnSurface(surface));
+            let left = bindings.retain(EntryTest::NotOnSurface(surface));
+            let releases = Releases::of_presses(taken);
+            let router = self.with_bindings(left);
+            return Released {
+                is_damaged: false,
+                releases,
+                router,
+            };
+        }
+        let releases = Releases::new();
+        Released {
+            is_damaged: true,
+            releases,
+            router: self,
+        }
+    }
+
+    // Ends all presses, panel by panel, and forgets sequences and the time.
+    pub fn release_all(self) -> Released
+        ensures { λ r. ⌜ r ≡ releaseAll self ⌝ }
+    {
+        if self.is_sound() {
+            let bindings = self.bindings;
+            let releases = by_panel(bindings);
+            let emptied = self.with_bindings(Bindings::new());
+            let unknown = emptied.with_sequences(DeviceSequences::new());
+            let router = unknown.with_timestamp(0);
+            return Released {
+                is_damaged: false,
+                releases,
+                router,
+            };
+        }
+        let releases = Releases::new();
+        Released {
+            is_damaged: true,
+            releases,
+            router: self,
+        }
+    }
+
+    // The presses of a device, in the order of their release.
+    pub fn device_presses(self, device: InputDeviceId) -> Bindings
+        ensures { λ r. ⌜ r ≡ devicePresses self device ⌝ }
+    {
+        let bindings = self.bindings;
+        bindings.retain(EntryTest::Key(KeyTest::OfDevice(device)))
+    }
+
+    pub fn without_device_presses(self, device: InputDeviceId) -> Self
+        ensures { λ r. ⌜ r ≡ withoutDevicePresses self device ⌝ }
+    {
+        let bindings = self.bindings;
+        self.with_bindings(bindings.retain(EntryTest::Key(KeyTest::NotOfDevice(device))))
+    }
+
+    // The router without the presses and the sequence number of a device; the time stays.
+    pub fn without_device(self, device: InputDeviceId) -> Self
+        ensures { λ r. ⌜ r ≡ withoutDevice self device ⌝ }
+    {
+        let sequences = self.device_sequences;
+        self.without_device_presses(device)
+            .with_sequences(sequences.remove(device))
+    }
+}
