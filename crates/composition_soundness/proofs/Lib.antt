@@ -1,0 +1,15 @@
+pub mod CaseLaws
+pub mod ListLaws
+pub mod LiveLaws
+pub mod PartLaws
+pub mod ChangeLaws
+pub mod LayerLaws
+pub mod InputLaws
+pub mod PanelLaws
+pub mod StartLaws
+pub mod WindowLaws
+pub mod AttachLaws
+pub mod TraceLaws
+pub mod CloseLaws
+pub mod ShutdownLaws
+pub mod ClaimLaws
