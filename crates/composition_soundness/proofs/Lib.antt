@@ -13,3 +13,6 @@ pub mod TraceLaws
 pub mod CloseLaws
 pub mod ShutdownLaws
 pub mod ClaimLaws
+pub mod ClearLaws
+pub mod AnswerLaws
+pub mod HistoryLaws
