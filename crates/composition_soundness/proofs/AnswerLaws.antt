@@ -67,7 +67,8 @@ module _ (r : CompositionRegistry) (s : isSound r ≡ true) where
   shutdown-clear (Refused e) p = p
 
   clear : (c : Call) → Clear (answer c r)
-  unfolding createWindow closeWindow createView closeView updateViewMetrics attachSurface updateSurfaceGeometry updateSurfaceInputPolicy setFocus beginIme endIme suspendViewInput releasePointerFor releasePointer releaseDevicePointerCaptures registerSurfaceSystemShortcutSet arbitrated concluded closeSurface shutdownOf
+  unfolding createWindow closeWindow createView closeView updateViewMetrics attachSurface updateSurfaceGeometry updateSurfaceInputPolicy setFocus beginIme endIme suspendViewInput
+      releasePointerFor releasePointer releaseDevicePointerCaptures registerSurfaceSystemShortcutSet arbitrated concluded closeSurface shutdownOf
   clear create-window = settled-clear (createWindowRefusal r) r _ (then-clear (damage r s) (if-clear (eqb (r .windows .live) (r .limits .«max_windows»)) Capacity refl))
   clear (close-window w) = settled-clear (closeWindowRefusal r w) r _ (then-clear (damage r s) (then-clear (window-at r w)
       (then-clear (if-clear (isWindowInUse (r .views) w) WindowInUse refl) (exhausted-clear (released (r .windows) w .outcome)))))

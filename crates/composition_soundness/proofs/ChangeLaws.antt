@@ -104,24 +104,9 @@ layers-remain before after limit view t p remains h x = record {
 
 -- ---- one part changed
 module _ (r : CompositionRegistry) (p : Parts r) where
-  -- a view's record, to one that passes where the old one does
-  pub view-changed : (h : GenerationalHandle) (v : ViewRecord)
-      → ((view : GenerationalHandle) → lookupOf (r .views .arena) view ≡ Live → view .index ≡ h .index
-      → ViewParts (r .windows) (r .surfaces) (r .limits .«max_surfaces_per_view») view (viewAt (r .views) h)
-      → ViewParts (r .windows) (r .surfaces) (r .limits .«max_surfaces_per_view») view v)
-      → Parts (withViews (withView h v (r .views)) r)
-  view-changed h v f = record {
-    limits = p .limits;
-    windows = p .windows;
-    views = p .views;
-    surfaces = p .surfaces;
-    shortcuts = p .shortcuts;
-    traces = p .traces;
-    view-records = length-set (r .views .records) (h .index) v ∙ p .view-records;
-    surface-records = p .surface-records;
-    each = λ g e. set-keeps (λ (w : ViewRecord). viewSound (r .windows) (r .surfaces) (r .limits .«max_surfaces_per_view») g w ≡ true) (r .views .records) (h .index) (g .index) v noView
-        (λ i s. view-sound _ _ _ g v (f g e i (view-parts _ _ _ g _ s))) (p .each g e);
-  }
+  -- a live view's facts
+  pub view-of : (h : GenerationalHandle) → lookupOf (r .views .arena) h ≡ Live → ViewParts (r .windows) (r .surfaces) (r .limits .«max_surfaces_per_view») h (viewAt (r .views) h)
+  view-of h e = view-parts _ _ _ h _ (p .each h e)
 
   -- the views as a whole
   pub views-changed : (t : ViewTable) → Proper (t .arena) (r .limits .«max_views») → length (t .records) ≡ 16
@@ -139,6 +124,15 @@ module _ (r : CompositionRegistry) (p : Parts r) where
     each = λ h e. view-sound _ _ _ h _ (f h e);
   }
 
+  -- a view's record, to one that passes where the old one does
+  pub view-changed : (h : GenerationalHandle) (v : ViewRecord)
+      → ((view : GenerationalHandle) → lookupOf (r .views .arena) view ≡ Live → view .index ≡ h .index
+      → ViewParts (r .windows) (r .surfaces) (r .limits .«max_surfaces_per_view») view (viewAt (r .views) h)
+      → ViewParts (r .windows) (r .surfaces) (r .limits .«max_surfaces_per_view») view v)
+      → Parts (withViews (withView h v (r .views)) r)
+  view-changed h v f = views-changed (withView h v (r .views)) (p .views) (length-set (r .views .records) (h .index) v ∙ p .view-records)
+      (λ g e. set-keeps (ViewParts (r .windows) (r .surfaces) (r .limits .«max_surfaces_per_view») g) (r .views .records) (h .index) (g .index) v noView (f g e) (view-of g e))
+
   -- the windows, where every live view's window stays live
   pub windows-changed : (a : Arena) → Proper a (r .limits .«max_windows»)
       → ((h : GenerationalHandle) → lookupOf (r .views .arena) h ≡ Live → lookupOf (r .windows) (viewAt (r .views) h .window) ≡ Live → lookupOf a (viewAt (r .views) h .window) ≡ Live)
@@ -152,7 +146,7 @@ module _ (r : CompositionRegistry) (p : Parts r) where
     traces = p .traces;
     view-records = p .view-records;
     surface-records = p .surface-records;
-    each = λ h e. let x = view-parts _ _ _ h _ (p .each h e) in view-sound _ _ _ h _ (record { window = f h e (x .window); layered = x .layered; captured = x .captured });
+    each = λ h e. let x = view-of h e in view-sound _ _ _ h _ (record { window = f h e (x .window); layered = x .layered; captured = x .captured });
   }
 
   -- the panels, where every live view's layers pass again
@@ -169,7 +163,7 @@ module _ (r : CompositionRegistry) (p : Parts r) where
     traces = p .traces;
     view-records = p .view-records;
     surface-records = long;
-    each = λ h e. let x = view-parts _ _ _ h _ (p .each h e) in view-sound _ _ _ h _ (record { window = x .window; layered = f h e (x .layered); captured = x .captured });
+    each = λ h e. let x = view-of h e in view-sound _ _ _ h _ (record { window = x .window; layered = f h e (x .layered); captured = x .captured });
   }
 
   pub shortcuts-changed : (t : Shortcuts) → t .len ≤ 256 → Parts (withShortcuts t r)
@@ -197,7 +191,3 @@ module _ (r : CompositionRegistry) (p : Parts r) where
     surface-records = p .surface-records;
     each = p .each;
   }
-
-  -- a live view's facts
-  pub view-of : (h : GenerationalHandle) → lookupOf (r .views .arena) h ≡ Live → ViewParts (r .windows) (r .surfaces) (r .limits .«max_surfaces_per_view») h (viewAt (r .views) h)
-  view-of h e = view-parts _ _ _ h _ (p .each h e)

@@ -16,3 +16,4 @@ pub mod ClaimLaws
 pub mod ClearLaws
 pub mod AnswerLaws
 pub mod HistoryLaws
+pub mod TypeLaws

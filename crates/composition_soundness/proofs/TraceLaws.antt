@@ -83,8 +83,13 @@ module _ (r : CompositionRegistry) (p : Parts r) (view : GenerationalHandle) (ev
   unfolding walkIn
   walk-in-few e =
       let v = viewAt (r .views) view in
-      omega (arith, walk-few (verdictAt (r .surfaces) (chosen event v) (entriesOf hits (ownHits event h))) (entriesOf layers (v .surfaces)),
-      entries-few layers (v .surfaces), view-of r p view e .layered .count, bounds r p .layers)
+      omega (
+        arith,
+        walk-few (verdictAt (r .surfaces) (chosen event v) (entriesOf hits (ownHits event h))) (entriesOf layers (v .surfaces)),
+        entries-few layers (v .surfaces),
+        view-of r p view e .layered .count,
+        bounds r p .layers,
+      )
 
   pub arbitrate : Parts (arbitrated r view event h .registry)
   unfolding arbitrated concluded
