@@ -6,7 +6,9 @@ use native.Mathlib.Omega.{arith}
 use borrow.Author.Tests.{eqb-true, eqb-false}
 use lib.Dec.{eqb, ltb, leb}
 use Rattle.lists.proofs.ListLaws.{by-test, clash}
+use Rattle.handles.specs.declared.handle.OptionalHandle.{OptionalHandle}
 use Rattle.maps.specs.declared.keys.BindingKey.{BindingKey}
+use Rattle.maps.specs.declared.keys.CompositionPointerId.{CompositionPointerId}
 use Rattle.maps.specs.declared.keys.InputDeviceId.{InputDeviceId}
 use Rattle.composition_state.specs.Errors.{errorNumber}
 use Rattle.composition_state.specs.declared.error.CompositionError.{CompositionError}
@@ -25,7 +27,8 @@ use Rattle.input_events.specs.declared.presses.OptionalPress.the-variant
 use Rattle.input_events.specs.RouterErrors.{routerErrorNumber}
 use Rattle.input_events.specs.Checks.{isUpright, payloadRefusal}
 use Rattle.input_events.specs.Presses.{pressIn, pointerEffect, keyEffect, gamepadEffect, effectIn}
-use Rattle.input_events.specs.Claims.{PressureRows, TiltRows, SelectionRows, isOwn, OwnOf, touched, EventClaims}
+use Rattle.input_events.specs.ArbitrationEvents.{pointerEvent, keyEvent, gamepadEvent, shortcutEvent, arbitrationEventIn, isAimed, needsHits}
+use Rattle.input_events.specs.Claims.{PressureRows, TiltRows, SelectionRows, isOwn, OwnOf, touched, isStackFor, EventClaims}
 
 -- ---- the rows of the counter table
 pressure-rows : (p : PointerInput) → eqb (p .contact) 4294967295 ≡ false → PressureRows p
@@ -165,6 +168,39 @@ own-press d (FocusChanged focused) press h = h
 own-press d (VisibilityChanged visible) press h = h
 own-press d DeviceDisconnected press h = h
 
+-- ---- the hits of an event
+module _ (held : OptionalHandle) where
+  aimed : (phase : PointerPhase) (pointer : CompositionPointerId) → isAimed phase ≡ isStackFor (pointerEvent phase pointer held)
+  aimed P.Down pointer = refl
+  aimed P.Move pointer = refl
+  aimed P.Up pointer = refl
+  aimed P.Cancel pointer = refl
+
+  by-key : (phase : KeyPhase) → false ≡ isStackFor (keyEvent phase held)
+  by-key K.Down = refl
+  by-key K.Up = refl
+
+  by-gamepad : (connected : Bool) → false ≡ isStackFor (gamepadEvent connected held)
+  by-gamepad true = refl
+  by-gamepad false = refl
+
+by-shortcut : (system : Bool) (mask : ℕ) → false ≡ isStackFor (shortcutEvent system mask)
+by-shortcut true mask = refl
+by-shortcut false mask = refl
+
+hits-asked : (d : InputDeviceId) (payload : PlatformInputPayload) (held : OptionalHandle) → needsHits payload ≡ isStackFor (arbitrationEventIn d payload held)
+unfolding needsHits arbitrationEventIn
+hits-asked d (Pointer p) held = aimed held (p .phase) _
+hits-asked d (Wheel w) held = refl
+hits-asked d (Key k) held = by-key held (k .phase)
+hits-asked d (Shortcut s) held = by-shortcut (s .system) (s .«class_mask»)
+hits-asked d (Text t) held = refl
+hits-asked d (Composition c) held = refl
+hits-asked d (GamepadSnapshot g) held = by-gamepad held (g .connected)
+hits-asked d (FocusChanged focused) held = refl
+hits-asked d (VisibilityChanged visible) held = refl
+hits-asked d DeviceDisconnected held = refl
+
 pub claims : EventClaims
 claims = record {
   pressure = pressure-rows;
@@ -174,4 +210,5 @@ claims = record {
   one-case = λ e f p q same. sym (back e p) ∙ ap ownAt same ∙ back f q;
   carried = carried;
   own-press = λ e. own-press (e .header .device) (e .payload);
+  hits-asked = hits-asked;
 }

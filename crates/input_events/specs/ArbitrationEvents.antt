@@ -39,7 +39,7 @@ abbrev pub shortcutEvent : Bool → ℕ → ArbitrationEvent
 shortcutEvent true mask = A.SystemShortcut mask
 shortcutEvent false mask = A.Shortcut
 
--- of a view's focus or visibility only the gain is arbitrated; a disconnect never is, so its row is free
+-- of a view's focus or visibility only the gain is arbitrated; a disconnect never is (the Rust has `unreachable!` there), so nothing rests on its row
 unfoldable pub arbitrationEventIn : InputDeviceId → PlatformInputPayload → OptionalHandle → ArbitrationEvent
 arbitrationEventIn d (Pointer p) held = pointerEvent (p .phase) (pointerOf d (p .contact)) held
 arbitrationEventIn d (Wheel w) held = A.PointerStackFor (pointerOf d (w .contact))

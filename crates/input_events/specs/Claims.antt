@@ -4,13 +4,18 @@ use mathlib.Core.Path.{_≡_}
 use mathlib.Core.Bool.{Bool, true, false, _||_}
 use lib.Dec.{eqb, ltb, leb}
 use lib.IntN.{pos, negℤ}
+use Rattle.handles.specs.declared.handle.OptionalHandle.{OptionalHandle}
 use Rattle.maps.specs.declared.keys.BindingKey.{BindingKey}
+use Rattle.maps.specs.declared.keys.InputDeviceId.{InputDeviceId}
 use Rattle.composition_state.specs.Errors.{errorNumber}
 use Rattle.composition_state.specs.declared.error.CompositionError.{CompositionError}
+use Rattle.composition_state.specs.declared.trace.ArbitrationEvent.{ArbitrationEvent}
+use Rattle.composition_state.specs.declared.trace.ArbitrationEvent.the-variants as A
 use Rattle.input_events.specs.declared.error.PlatformInputError.{PlatformInputError}
 use Rattle.input_events.specs.declared.error.PlatformInputError.the-variants as error
 use Rattle.input_events.specs.declared.event.CompositionInput.{CompositionInput}
 use Rattle.input_events.specs.declared.event.PlatformInputEvent.{PlatformInputEvent}
+use Rattle.input_events.specs.declared.event.PlatformInputPayload.{PlatformInputPayload}
 use Rattle.input_events.specs.declared.event.PlatformInputPayload.the-variants.{Pointer, Composition}
 use Rattle.input_events.specs.declared.event.PointerInput.{PointerInput}
 use Rattle.input_events.specs.declared.presses.Effect.{Effect}
@@ -20,6 +25,7 @@ use Rattle.input_events.specs.declared.presses.OptionalPress.the-variant
 use Rattle.input_events.specs.RouterErrors.{routerErrorNumber, routerNumberOf}
 use Rattle.input_events.specs.Checks.{isUpright, payloadRefusal}
 use Rattle.input_events.specs.Presses.{pressOf, effectOf}
+use Rattle.input_events.specs.ArbitrationEvents.{arbitrationEventIn, needsHits}
 
 abbrev pub pointerNumber : PointerInput → ℕ
 pointerNumber p = routerNumberOf (payloadRefusal (Pointer p))
@@ -73,6 +79,20 @@ touched (Opens press) = Some press
 touched (Ends press) = Some press
 touched Nothing = None
 
+-- an arbitration by the hits at a named pointer's point
+abbrev pub isStackFor : ArbitrationEvent → Bool
+isStackFor (A.Pointer hit) = false
+isStackFor A.PointerStack = false
+isStackFor (A.PointerFor pointer hit) = false
+isStackFor (A.PointerStackFor pointer) = true
+isStackFor A.Keyboard = false
+isStackFor (A.KeyboardFor target) = false
+isStackFor A.Gamepad = false
+isStackFor (A.GamepadFor target) = false
+isStackFor A.Text = false
+isStackFor A.Shortcut = false
+isStackFor (A.SystemShortcut mask) = false
+
 pub record EventClaims : Type 0 where
   pub pressure : (p : PointerInput) → eqb (p .contact) 4294967295 ≡ false → PressureRows p
   pub tilt : (p : PointerInput) → eqb (p .contact) 4294967295 ≡ false → ltb 32768 (p .«pressure_q15») ≡ false → TiltRows p
@@ -84,3 +104,5 @@ pub record EventClaims : Type 0 where
   pub carried : (e : CompositionError) → (leb (errorNumber e) 22 || leb 41 (errorNumber e)) ≡ true
   -- an event opens or ends only the press that it concerns
   pub own-press : (e : PlatformInputEvent) (press : BindingKey) → touched (effectOf e) ≡ Some press → pressOf e ≡ Some press
+  -- the hits are asked for exactly where the targets are the hits
+  pub hits-asked : (d : InputDeviceId) (payload : PlatformInputPayload) (held : OptionalHandle) → needsHits payload ≡ isStackFor (arbitrationEventIn d payload held)

@@ -7,7 +7,7 @@ pub mod presses;
 
 ghost use Rattle.input_events.specs.Claims.{EventClaims};
 
-// What holds of the events' definitions: the counter table's rows, the numbers, and that an event opens or ends only its own press.
+// What holds of the events' definitions: the counter table's rows, the numbers, an event's own press, and where hits are asked for.
 pub fn event_claims()
     ensures { λ r. ⌜ EventClaims ⌝ }
 {}

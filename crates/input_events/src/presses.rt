@@ -1,6 +1,5 @@
 // Which press an event concerns, what becomes of that press, and which panel receives it.
 ghost use mathlib.Core.Path.{_≡_};
-ghost use mathlib.Core.Bool.{not};
 ghost use lib.ListN.{length};
 ghost use Rattle.lists.specs.Lists.{first};
 ghost use Rattle.lists.specs.Tables.{entriesOf};

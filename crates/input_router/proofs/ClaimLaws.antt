@@ -26,7 +26,8 @@ use Rattle.maps.specs.declared.keys.InputDeviceId.{InputDeviceId}
 use Rattle.maps.specs.declared.bindings.Binding.{Binding}
 use Rattle.maps.specs.declared.sequences.DeviceSequence.{DeviceSequence}
 use Rattle.maps.proofs.MapTableLaws as maps
-use Rattle.composition_state.specs.declared.error.Outcome.the-variants.{Accepted}
+use Rattle.composition_state.specs.declared.error.CompositionError.{CompositionError}
+use Rattle.composition_state.specs.declared.error.Outcome.the-variants.{Accepted, Refused}
 use Rattle.composition_state.specs.declared.surface.SurfaceTable.{SurfaceTable}
 use Rattle.input_router.specs.declared.order.Order.the-variants as order
 use Rattle.input_router.specs.declared.router.PlatformInputRouter.{PlatformInputRouter}
@@ -40,7 +41,7 @@ use Rattle.input_router.specs.Releases.{isOfDevice, releaseSurface, rele
 use Rattle.input_router.specs.ViewReleases.{kindOf, isClosed, pressOf, firstClosed, closedRefusal, isOfView, isTaken, releaseView}
 use Rattle.input_router.specs.Claims.{RouterClaims}
 use Rattle.input_router.proofs.KeepLaws.{keep-in, keep-apart}
-use Rattle.input_router.proofs.ReleaseListLaws.{by-panel-length, by-panel-keeps, by-panel-ordered}
+use Rattle.input_router.proofs.ReleaseListLaws.{by-panel-length, by-panel-keeps, by-panel-ordered, presses-first, captures-listed}
 use Rattle.input_router.proofs.SoundLaws as sound
 
 start-sound : (n : ℕ) → isRouterSound (started n .router) ≡ isStarted (startOutcome n)
@@ -159,6 +160,10 @@ view-accepted : (r : PlatformInputRouter) (t : SurfaceTable) (v : GenerationalHa
 unfolding releaseView
 view-accepted r t v q = let n = none-closed t (pressesOf r) q in (rw n, rw n)
 
+view-refused : (r : PlatformInputRouter) (t : SurfaceTable) (v : GenerationalHandle) (e : CompositionError) → releaseView r t v .outcome ≡ Refused e → releaseView r t v .presses ≡ packed bindings []
+unfolding releaseView
+view-refused r t v e q = rw q
+
 -- in key order a later press is of no lesser kind
 kinds-rise : (e f : Binding) → keyLt (keyOfBinding e) (keyOfBinding f) ≡ true → ltb (kindOf f) (kindOf e) ≡ false
 kinds-rise e f h = by-test (ltb (kindOf f) (kindOf e))
@@ -228,4 +233,7 @@ claims = record {
   all-by-handle = λ r s. rw (all-listed-are r s) (by-panel-ordered (pressesOf r));
   view-accepted = view-accepted;
   view-stopped = view-stopped;
+  view-refused = view-refused;
+  presses-first = presses-first;
+  captures-listed = captures-listed;
 }

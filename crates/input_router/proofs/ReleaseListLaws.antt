@@ -17,16 +17,18 @@ use Rattle.lists.proofs.TableLaws as table
 use Rattle.handles.specs.Handles.{sameHandle, handleLt}
 use Rattle.handles.specs.declared.handle.GenerationalHandle.{GenerationalHandle}
 use Rattle.handles.proofs.HandleLaws.{handles}
+use Rattle.maps.specs.Keys.{pointerKey}
 use Rattle.maps.specs.Bindings.{bindings}
 use Rattle.maps.specs.declared.bindings.Binding.{Binding}
 use Rattle.maps.specs.declared.bindings.Bindings.{Bindings}
 use Rattle.maps.specs.declared.captures.Capture.{Capture}
+use Rattle.maps.proofs.MapTableLaws.{keys}
 use Rattle.composition_input.specs.declared.answer.CaptureList.{CaptureList}
 use Rattle.composition_input.specs.Captures.{captureList}
 use Rattle.composition_input.proofs.answer.CaptureList as C
 use Rattle.composition_input.proofs.answer.CaptureList.Laws as C′
 use Rattle.input_router.specs.declared.release_list.Releases.{Releases}
-use Rattle.input_router.specs.ReleaseLists.{releases, isOn, isNotBelow, IsLeast, placed, byPanel, inPanelOrder, isListed, addCapture, addCaptures}
+use Rattle.input_router.specs.ReleaseLists.{releases, isOn, isNotBelow, IsLeast, placed, byPanel, inPanelOrder, isPair, isListed, captureRelease, addCapture, addCaptures}
 use Rattle.input_router.proofs.KeepLaws.{keep-in, keep-apart, all-kept, all-implied, keep-all, all-keep, all-both}
 use Rattle.input_router.proofs.release_list.Releases as T
 use Rattle.input_router.proofs.release_list.Releases.Laws as T′
@@ -227,6 +229,33 @@ pub length-adds : (l : List Binding) (cs : List Capture) → length (addCaptures
 unfolding addCaptures
 length-adds l [] = omega arith
 length-adds l (c ∷ cs) = omega (arith, length-adds (addCapture l c) cs, length-add l c)
+
+-- the presses stay in front, so what is listed stays listed
+pub presses-first : (l : List Binding) (cs : List Capture) → (more : List Binding) × (addCaptures l cs ≡ l ++ more)
+unfolding addCaptures
+presses-first l [] = ([], sym (append-nil l))
+presses-first l (c ∷ cs) = by-test (isListed c l)
+    (λ t. rw t (presses-first l cs))
+    (λ t. let rest = presses-first (l ++ (captureRelease c ∷ [])) cs in
+    rw t (captureRelease c ∷ rest .0, rest .1 ∙ append-assoc l (captureRelease c ∷ []) (rest .0)))
+
+still-listed : (c : Capture) (l more : List Binding) → isListed c l ≡ true → isListed c (l ++ more) ≡ true
+still-listed c [] more h = clash refl (sym h)
+still-listed c (e ∷ l) more h = by-test (isPair c e) (λ t. rw t) (λ t. rw t (still-listed c l more (rw t at h)))
+
+listed-last : (c : Capture) (l : List Binding) → isListed c (l ++ (captureRelease c ∷ [])) ≡ true
+listed-last c [] = rw (and-both (keys .same-refl (pointerKey (c .pointer))) (handles .same-refl (c .surface)))
+listed-last c (e ∷ l) = by-test (isPair c e) (λ t. rw t) (λ t. rw t (listed-last c l))
+
+listed-added : (c : Capture) (l : List Binding) → isListed c (addCapture l c) ≡ true
+listed-added c l = by-test (isListed c l) (λ t. rw (t, t)) (λ t. rw t (listed-last c l))
+
+pub captures-listed : (l : List Binding) (cs : List Capture) → all (λ c. isListed c (addCaptures l cs)) cs ≡ true
+unfolding addCaptures
+captures-listed l [] = refl
+captures-listed l (c ∷ cs) =
+    let rest = presses-first (addCapture l c) cs in
+    and-both (ap (isListed c) (rest .1) ∙ still-listed c (addCapture l c) (rest .0) (listed-added c l)) (captures-listed (addCapture l c) cs)
 
 -- one turn of a loop that adds the captures of a table of any shape
 module _ {T : Type 0} (s : Shape Capture T) (t : T) (i : ℕ) (d : Capture) (within : i < length (entriesOf s t)) (l : List Binding) where

@@ -2,11 +2,11 @@
 use Prim.Native.Nat.{ℕ}
 use mathlib.Core.Path.{_≡_}
 use mathlib.Core.Bool.{true, false, not, _||_}
-use mathlib.Core.List.{[]}
+use mathlib.Core.List.{List, [], _++_}
 use lib.Dec.{ltb}
 use lib.ListN.{length}
 use Rattle.lists.specs.Lists.{keep, all}
-use Rattle.lists.specs.Tables.{entriesOf}
+use Rattle.lists.specs.Tables.{entriesOf, packed}
 use Rattle.handles.specs.Handles.{sameHandle}
 use Rattle.handles.specs.declared.handle.GenerationalHandle.{GenerationalHandle}
 use Rattle.handles.specs.declared.handle.OptionalHandle.the-variants as O
@@ -17,7 +17,9 @@ use Rattle.maps.specs.Sequences.{sequences, sequenceKey}
 use Rattle.maps.specs.declared.keys.BindingKey.{BindingKey}
 use Rattle.maps.specs.declared.keys.InputDeviceId.{InputDeviceId}
 use Rattle.maps.specs.declared.bindings.Binding.{Binding}
-use Rattle.composition_state.specs.declared.error.Outcome.the-variants.{Accepted}
+use Rattle.maps.specs.declared.captures.Capture.{Capture}
+use Rattle.composition_state.specs.declared.error.CompositionError.{CompositionError}
+use Rattle.composition_state.specs.declared.error.Outcome.the-variants.{Accepted, Refused}
 use Rattle.composition_state.specs.declared.surface.SurfaceTable.{SurfaceTable}
 use Rattle.input_router.specs.declared.order.Order.the-variants.{InOrder}
 use Rattle.input_router.specs.declared.router.PlatformInputRouter.{PlatformInputRouter}
@@ -26,7 +28,7 @@ use Rattle.input_router.specs.Router.{isStarted, startOutcome, started, 
 use Rattle.input_router.specs.Damage.{isRouterSound}
 use Rattle.input_router.specs.Order.{sequenceEntry, orderOf, recorded}
 use Rattle.input_router.specs.Presses.{heldBy, hasRoom, opened, ended}
-use Rattle.input_router.specs.ReleaseLists.{releases, isOn, inPanelOrder}
+use Rattle.input_router.specs.ReleaseLists.{releases, isOn, inPanelOrder, isListed, addCaptures}
 use Rattle.input_router.specs.Releases.{releaseSurface, releaseAll, withoutDevicePresses, withoutDevice}
 use Rattle.input_router.specs.ViewReleases.{kindOf, isClosed, firstClosed, isOfView, releaseView}
 
@@ -68,3 +70,8 @@ pub record RouterClaims : Type 0 where
   -- of the kinds before that of the first press whose panel is closed, no press has a closed panel
   pub view-stopped : (r : PlatformInputRouter) (t : SurfaceTable) (stop : Binding) → isRouterSound r ≡ true → firstClosed t (pressesOf r) ≡ Some stop
       → all (λ e. not (ltb (kindOf e) (kindOf stop)) || not (isClosed t e)) (pressesOf r) ≡ true
+  -- a refused view release lists nothing
+  pub view-refused : (r : PlatformInputRouter) (t : SurfaceTable) (v : GenerationalHandle) (e : CompositionError) → releaseView r t v .outcome ≡ Refused e → releaseView r t v .presses ≡ packed bindings []
+  -- presses are listed first, and every capture's pair of pointer and panel is listed
+  pub presses-first : (l : List Binding) (cs : List Capture) → (more : List Binding) × (addCaptures l cs ≡ l ++ more)
+  pub captures-listed : (l : List Binding) (cs : List Capture) → all (λ c. isListed c (addCaptures l cs)) cs ≡ true
