@@ -1,0 +1,4 @@
+pub mod Book
+pub mod Notes
+pub mod Owed
+pub mod Claims
