@@ -14,9 +14,11 @@ use Rattle.input_route.specs.declared.answer.PlatformInputRoutingReport.
 use Rattle.input_route.specs.declared.answer.RouteKind.the-variants.{Nothing}
 use Rattle.input_route.specs.declared.answer.Routed.{Routed}
 
+-- an event that was not arbitrated has no delivery and no consumer
 abbrev pub noResult : ArbitrationResult
 noResult = record { revision = 0; deliveries = packed deliveries []; «consumed_by» = O.None }
 
+-- a refused event lists no release
 abbrev pub noReport : PlatformInputRoutingReport
 noReport = record { kind = Nothing; arbitration = noResult; «synthesized_releases» = packed releases []; «view_release» = S.None; «composition_revision» = 0 }
 

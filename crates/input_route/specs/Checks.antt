@@ -42,6 +42,7 @@ refusalOfOrder order.PortLimit = Refused error.PortLimit
 abbrev pub orderRefusal : PlatformInputRouter → PlatformInputHeader → RouterOutcome
 orderRefusal t h = refusalOfOrder (orderOf t (h .device) (h .sequence) (h .«timestamp_micros»))
 
+-- the first refusal of an event, in document 01's order
 unfoldable pub routeRefusal : CompositionRegistry → PlatformInputRouter → PlatformInputEvent → RouterOutcome
 routeRefusal r t e =
     thenRouterRefusal (damagedRefusal r t)

@@ -28,6 +28,7 @@ use Rattle.input_route.specs.declared.answer.RouteKind.the-variants.{Dis
 use Rattle.input_route.specs.declared.answer.Routed.{Routed}
 use Rattle.input_route.specs.Answers.{noResult, refusedWith}
 
+-- a disconnect lists releases and answers the registry's revision
 abbrev pub disconnectReport : Releases → ℕ → PlatformInputRoutingReport
 disconnectReport l n = record { kind = Disconnected; arbitration = noResult; «synthesized_releases» = l; «view_release» = S.None; «composition_revision» = n }
 
@@ -47,6 +48,7 @@ routedDisconnect r t device =
     let c = releaseDevicePointerCaptures r (device .value) (device .generation) in
     disconnectAfter c t device (c .outcome)
 
+-- a loss also answers what its view has let go
 abbrev pub lossReport : Releases → OptionalInputState → ℕ → PlatformInputRoutingReport
 lossReport l s n = record { kind = ViewGone; arbitration = noResult; «synthesized_releases» = l; «view_release» = s; «composition_revision» = n }
 

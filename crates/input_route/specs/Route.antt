@@ -59,6 +59,7 @@ tracked t Nothing receiver = t
 abbrev pub arbitratedReport : ArbitrationResult → PlatformInputRoutingReport
 arbitratedReport a = record { kind = kind.Arbitrated; arbitration = a; «synthesized_releases» = packed releases []; «view_release» = S.None; «composition_revision» = a .revision }
 
+-- an accepted arbitration tracks the press; a refused one leaves the presses
 abbrev pub arbitratedAfter : Arbitrated → PlatformInputRouter → PlatformInputEvent → Outcome → Routed
 arbitratedAfter a t e composition.Accepted = record {
   outcome = Accepted;
@@ -68,11 +69,13 @@ arbitratedAfter a t e composition.Accepted = record {
 }
 arbitratedAfter a t e (composition.Refused x) = refusedWith (error.Composition x) (a .registry) t
 
+-- the event is arbitrated in its view, aimed by the press's panel or the hits
 unfoldable pub routedArbitration : CompositionRegistry → PlatformInputRouter → PlatformInputEvent → Routed
 routedArbitration r t e =
     let a = arbitrated r (e .header .view) (arbitrationEvent e (heldFor t e)) (hitsFor r e) in
     arbitratedAfter a t e (a .outcome)
 
+-- a device's disconnect, a view's loss, or an event to arbitrate
 unfoldable pub routedPayload : CompositionRegistry → PlatformInputRouter → PlatformInputEvent → Routed
 routedPayload r t e =
     cond (isDisconnect (e .payload)) (routedDisconnect r t (e .header .device))
@@ -87,5 +90,6 @@ abbrev pub routedAfter : CompositionRegistry → PlatformInputRouter → Platfor
 routedAfter r t e Accepted = routedPayload r (recordedEvent t e) e
 routedAfter r t e (Refused x) = refusedWith x r t
 
+-- an event that the checks refuse writes nothing; any other is recorded before its work
 unfoldable pub routed : CompositionRegistry → PlatformInputRouter → PlatformInputEvent → Routed
 routed r t e = routedAfter r t e (routeRefusal r t e)
