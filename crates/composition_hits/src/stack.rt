@@ -55,7 +55,8 @@ pub fn layers_of(views: ViewTable, view: GenerationalHandle) -> Layers
     record.surfaces
 }
 
-fn hit_test_refusal(registry: CompositionRegistry, view: GenerationalHandle, size: usize) -> Outcome
+// Document 01: 42, 8/9, 41.
+pub fn hit_test_refusal(registry: CompositionRegistry, view: GenerationalHandle, size: usize) -> Outcome
     ensures { λ r. ⌜ r ≡ hitTestRefusal registry view size ⌝ }
 {
     let views = registry.views;

@@ -1,0 +1,279 @@
+// `step`: any call of the port on any counter.
+ghost use mathlib.Core.Path.{_≡_};
+ghost use Rattle.counter.specs.Step.{fromRegistry, fromCaptures, fromArbitrated, fromClosed, fromShutdown, fromRouted, fromReleased, fromRead, closeStep, routerStep, stepped};
+use crate::answer::Answer;
+use crate::answer::Listed;
+use crate::answer::Made;
+use crate::answer::ReadOut;
+use crate::answer::of_arbitration;
+use crate::answer::of_releases;
+use calls::call::Call;
+use calls::call::CloseCall;
+use calls::call::Lists;
+use calls::call::RouterCall;
+use registry_step::steps::RegistryStepped;
+use registry_step::steps::input_step;
+use registry_step::steps::panel_step;
+use registry_step::steps::shortcut_step;
+use composition_arbitration::arbitrate::Arbitrated;
+use composition_arbitration::arbitrate::arbitrate;
+use composition_close::answer::Shutdown;
+use composition_close::answer::SurfaceClosed;
+use composition_close::close::close_surface;
+use composition_close::shutdown::shutdown;
+use composition_input::answer::CapturesReleased;
+use composition_input::captures::release_device_pointer_captures;
+use composition_state::registry::CompositionRegistry;
+use input_events::error::PlatformInputError;
+use input_events::error::from_composition;
+use input_events::error::refuse_if;
+use input_route::answer::Routed;
+use input_route::answer::no_report;
+use input_route::route::route;
+use input_router::releases::Released;
+use input_router::router::PlatformInputRouter;
+use read_step::steps::ReadStepped;
+use read_step::steps::read_step;
+
+// The program's whole state.
+pub struct Counter {
+    pub registry: CompositionRegistry,
+    pub router: PlatformInputRouter,
+}
+
+pub struct Stepped {
+    pub answer: Answer,
+    pub counter: Counter,
+}
+
+fn from_registry(stepped: RegistryStepped, router: PlatformInputRouter) -> Stepped
+    ensures { λ r. ⌜ r ≡ fromRegistry stepped router ⌝ }
+{
+    let registry = stepped.registry;
+    let refusal = stepped.outcome;
+    let outcome = from_composition(refusal);
+    let handle = stepped.handle;
+    let metrics = stepped.metrics;
+    let input_state = stepped.input_state;
+    let made = Made {
+        handle,
+        metrics,
+        input_state,
+    };
+    let report = no_report();
+    let listed = Listed::nothing();
+    let read = ReadOut::nothing();
+    let answer = Answer {
+        outcome,
+        made,
+        report,
+        listed,
+        read,
+    };
+    let counter = Counter { registry, router };
+    Stepped { answer, counter }
+}
+
+fn from_captures(released: CapturesReleased, router: PlatformInputRouter) -> Stepped
+    ensures { λ r. ⌜ r ≡ fromCaptures released router ⌝ }
+{
+    let registry = released.registry;
+    let refusal = released.outcome;
+    let captures = released.released;
+    let outcome = from_composition(refusal);
+    let made = Made::nothing();
+    let report = no_report();
+    let listed = Listed::of_captures(captures);
+    let read = ReadOut::nothing();
+    let answer = Answer {
+        outcome,
+        made,
+        report,
+        listed,
+        read,
+    };
+    let counter = Counter { registry, router };
+    Stepped { answer, counter }
+}
+
+fn from_arbitrated(arbitrated: Arbitrated, router: PlatformInputRouter) -> Stepped
+    ensures { λ r. ⌜ r ≡ fromArbitrated arbitrated router ⌝ }
+{
+    let registry = arbitrated.registry;
+    let refusal = arbitrated.outcome;
+    let result = arbitrated.result;
+    let outcome = from_composition(refusal);
+    let made = Made::nothing();
+    let report = of_arbitration(result);
+    let listed = Listed::nothing();
+    let read = ReadOut::nothing();
+    let answer = Answer {
+        outcome,
+        made,
+        report,
+        listed,
+        read,
+    };
+    let counter = Counter { registry, router };
+    Stepped { answer, counter }
+}
+
+fn from_closed(closed: SurfaceClosed, router: PlatformInputRouter) -> Stepped
+    ensures { λ r. ⌜ r ≡ fromClosed closed router ⌝ }
+{
+    let registry = closed.registry;
+    let refusal = closed.outcome;
+    let closing = closed.report;
+    let outcome = from_composition(refusal);
+    let made = Made::nothing();
+    let report = no_report();
+    let listed = Listed::of_close(closing);
+    let read = ReadOut::nothing();
+    let answer = Answer {
+        outcome,
+        made,
+        report,
+        listed,
+        read,
+    };
+    let counter = Counter { registry, router };
+    Stepped { answer, counter }
+}
+
+fn from_shutdown(done: Shutdown, router: PlatformInputRouter) -> Stepped
+    ensures { λ r. ⌜ r ≡ fromShutdown done router ⌝ }
+{
+    let registry = done.registry;
+    let refusal = done.outcome;
+    let closing = done.report;
+    let outcome = from_composition(refusal);
+    let made = Made::nothing();
+    let report = no_report();
+    let listed = Listed::of_shutdown(closing);
+    let read = ReadOut::nothing();
+    let answer = Answer {
+        outcome,
+        made,
+        report,
+        listed,
+        read,
+    };
+    let counter = Counter { registry, router };
+    Stepped { answer, counter }
+}
+
+fn from_routed(routed: Routed) -> Stepped
+    ensures { λ r. ⌜ r ≡ fromRouted routed ⌝ }
+{
+    let registry = routed.registry;
+    let router = routed.router;
+    let outcome = routed.outcome;
+    let report = routed.report;
+    let made = Made::nothing();
+    let listed = Listed::nothing();
+    let read = ReadOut::nothing();
+    let answer = Answer {
+        outcome,
+        made,
+        report,
+        listed,
+        read,
+    };
+    let counter = Counter { registry, router };
+    Stepped { answer, counter }
+}
+
+// A router release leaves the registry as it was.
+fn from_released(registry: CompositionRegistry, released: Released) -> Stepped
+    ensures { λ r. ⌜ r ≡ fromReleased registry released ⌝ }
+{
+    let router = released.router;
+    let releases = released.releases;
+    let outcome = refuse_if(released.is_damaged, PlatformInputError::Damaged);
+    let made = Made::nothing();
+    let report = of_releases(releases);
+    let listed = Listed::nothing();
+    let read = ReadOut::nothing();
+    let answer = Answer {
+        outcome,
+        made,
+        report,
+        listed,
+        read,
+    };
+    let counter = Counter { registry, router };
+    Stepped { answer, counter }
+}
+
+// A call that alters nothing leaves the counter as it was.
+fn from_read(counter: Counter, done: ReadStepped) -> Stepped
+    ensures { λ r. ⌜ r ≡ fromRead counter done ⌝ }
+{
+    let refusal = done.outcome;
+    let shown = done.shown;
+    let hits = done.hits;
+    let outcome = from_composition(refusal);
+    let made = Made::nothing();
+    let report = no_report();
+    let listed = Listed::nothing();
+    let read = ReadOut { shown, hits };
+    let answer = Answer {
+        outcome,
+        made,
+        report,
+        listed,
+        read,
+    };
+    Stepped { answer, counter }
+}
+
+fn close_step(counter: Counter, call: CloseCall) -> Stepped
+    ensures { λ r. ⌜ r ≡ closeStep counter call ⌝ }
+{
+    let registry = counter.registry;
+    let router = counter.router;
+    match call {
+        CloseCall::CloseSurface(surface) => from_closed(close_surface(registry, surface), router),
+        CloseCall::Shutdown => from_shutdown(shutdown(registry), router),
+    }
+}
+
+fn router_step(counter: Counter, call: RouterCall) -> Stepped
+    ensures { λ r. ⌜ r ≡ routerStep counter call ⌝ }
+{
+    let registry = counter.registry;
+    let router = counter.router;
+    match call {
+        RouterCall::Route(event) => from_routed(route(registry, router, event)),
+        RouterCall::ReleaseSurface(surface) => from_released(registry, router.release_surface(surface)),
+        RouterCall::ReleaseAll => from_released(registry, router.release_all()),
+    }
+}
+
+pub fn step(counter: Counter, call: Call, lists: Lists) -> Stepped
+    ensures { λ r. ⌜ r ≡ stepped counter call lists ⌝ }
+{
+    let registry = counter.registry;
+    let router = counter.router;
+    match call {
+        Call::Panel(which) => from_registry(panel_step(registry, which), router),
+        Call::Input(which) => from_registry(input_step(registry, which), router),
+        Call::ReleaseDevice(given) => from_captures(
+            release_device_pointer_captures(registry, given.device, given.device_generation),
+            router,
+        ),
+        Call::Shortcut(which) => {
+            let registrations = lists.registrations;
+            from_registry(shortcut_step(registry, which, registrations), router)
+        }
+        Call::Arbitrate(given) => {
+            let view = given.view;
+            let event = given.event;
+            let hits = lists.hits;
+            from_arbitrated(arbitrate(registry, view, event, hits), router)
+        }
+        Call::Close(which) => close_step(counter, which),
+        Call::Router(which) => router_step(counter, which),
+        Call::Read(which) => from_read(counter, read_step(registry, router, which)),
+    }
+}

@@ -1,0 +1,43 @@
+-- `route_refusal` meets its contract: the refusals one after the other.
+use Rattle.input_route.specs.Checks.{routeRefusal}
+use borrow.Author.Needs.{needs}
+use Rattle.input_route.proofs.checks.route_refusal.Statement.{statement}
+use Rattle.input_route.proofs.checks.route_refusal.Tie as tie
+
+room-refusal-requires : tie.Need-room-refusal-requires
+room-refusal-requires c κs = search needs
+
+order-refusal-requires : tie.Need-order-refusal-requires
+order-refusal-requires c κs = search needs
+
+event-refusal-requires : tie.Need-event-refusal-requires
+event-refusal-requires c κs = search needs
+
+damaged-refusal-requires : tie.Need-damaged-refusal-requires
+damaged-refusal-requires c κs = search needs
+
+then-requires : tie.Need-then-requires
+then-requires c κs = search needs
+
+then-requires-2 : tie.Need-then-requires-2
+then-requires-2 c κs = search needs
+
+then-requires-3 : tie.Need-then-requires-3
+then-requires-3 c κs = search needs
+
+returns : tie.Need-returns
+unfolding routeRefusal
+returns c = rw (c .then3 .ensures, c .before .then2 .ensures, c .before .before .then .ensures, c .before .before .before .damaged-refusal .ensures, c .before .before .before .before .event-refusal .ensures, c .before .before .before .before .before .order-refusal .ensures, c .before .before .before .before .before .before .room-refusal .ensures)
+
+pub route-refusal-spec : {M : Type 1} → statement M
+route-refusal-spec =
+    tie.close
+    (tie.spec
+    room-refusal-requires
+    order-refusal-requires
+    event-refusal-requires
+    damaged-refusal-requires
+    then-requires
+    then-requires-2
+    then-requires-3
+    returns)

@@ -1,0 +1,60 @@
+// The checks of an event before anything is written.
+ghost use mathlib.Core.Path.{_≡_};
+ghost use Rattle.input_route.specs.Checks.{damagedRefusal, roomRefusal, orderRefusal, routeRefusal};
+use composition_state::registry::CompositionRegistry;
+use input_events::checks::event_refusal;
+use input_events::error::PlatformInputError;
+use input_events::error::RouterOutcome;
+use input_events::error::refuse_if;
+use input_events::event::PlatformInputEvent;
+use input_events::event::PlatformInputHeader;
+use input_events::presses::Effect;
+use input_events::presses::effect_of;
+use input_router::order::Order;
+use input_router::router::PlatformInputRouter;
+use lists::both;
+
+fn damaged_refusal(registry: CompositionRegistry, router: PlatformInputRouter) -> RouterOutcome
+    ensures { λ r. ⌜ r ≡ damagedRefusal registry router ⌝ }
+{
+    let sound = both(registry.is_sound(), router.is_sound());
+    refuse_if(!sound, PlatformInputError::Damaged)
+}
+
+// A press that would open needs room, whether it will have a receiver or not.
+fn room_refusal(router: PlatformInputRouter, event: PlatformInputEvent) -> RouterOutcome
+    ensures { λ r. ⌜ r ≡ roomRefusal router event ⌝ }
+{
+    match effect_of(event) {
+        Effect::Opens(key) => refuse_if(!router.has_room(key), PlatformInputError::Capacity),
+        Effect::Ends(_) => RouterOutcome::Accepted,
+        Effect::Nothing => RouterOutcome::Accepted,
+    }
+}
+
+fn order_refusal(router: PlatformInputRouter, header: PlatformInputHeader) -> RouterOutcome
+    ensures { λ r. ⌜ r ≡ orderRefusal router header ⌝ }
+{
+    let device = header.device;
+    match router.order_of(device, header.sequence, header.timestamp_micros) {
+        Order::InOrder => RouterOutcome::Accepted,
+        Order::InvalidSequence => RouterOutcome::Refused(PlatformInputError::InvalidSequence),
+        Order::InvalidTimestamp => RouterOutcome::Refused(PlatformInputError::InvalidTimestamp),
+        Order::PortLimit => RouterOutcome::Refused(PlatformInputError::PortLimit),
+    }
+}
+
+pub fn route_refusal(
+    registry: CompositionRegistry,
+    router: PlatformInputRouter,
+    event: PlatformInputEvent,
+) -> RouterOutcome
+    ensures { λ r. ⌜ r ≡ routeRefusal registry router event ⌝ }
+{
+    let views = registry.views;
+    let header = event.header;
+    let room = room_refusal(router, event);
+    let order = order_refusal(router, header);
+    let own = event_refusal(views, event);
+    damaged_refusal(registry, router).then(own.then(room.then(order)))
+}

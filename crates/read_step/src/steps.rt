@@ -1,0 +1,121 @@
+// Each call that alters nothing.
+ghost use mathlib.Core.Path.{_≡_};
+ghost use Rattle.read_step.specs.Reads.{shownIf, readOf, hitRead, localRead, readStep};
+use crate::answer::Shown;
+use crate::answer::count;
+use crate::hits::HitNumbers;
+use crate::hits::hits_if;
+use calls::arguments::HitTestArguments;
+use calls::arguments::InversePointArguments;
+use calls::call::ReadCall;
+use composition_hits::stack::hit_test_refusal;
+use composition_reads::surface_descriptor;
+use composition_reads::view_input_state;
+use composition_reads::view_layers;
+use composition_reads::view_metrics;
+use composition_reads::view_pointer_captures;
+use composition_reads::view_window;
+use composition_state::error::Outcome;
+use composition_state::registry::CompositionRegistry;
+use input_router::router::PlatformInputRouter;
+
+pub struct ReadStepped {
+    pub outcome: Outcome,
+    pub shown: Shown,
+    pub hits: HitNumbers,
+}
+
+// A refused read shows nothing.
+fn shown_if(outcome: Outcome, shown: Shown) -> Shown
+    ensures { λ r. ⌜ r ≡ shownIf outcome shown ⌝ }
+{
+    match outcome {
+        Outcome::Accepted => shown,
+        Outcome::Refused(_) => Shown::Nothing,
+    }
+}
+
+fn read(outcome: Outcome, shown: Shown) -> ReadStepped
+    ensures { λ r. ⌜ r ≡ readOf outcome shown ⌝ }
+{
+    ReadStepped {
+        outcome,
+        shown: shown_if(outcome, shown),
+        hits: HitNumbers::new(),
+    }
+}
+
+fn read_hits(registry: CompositionRegistry, given: HitTestArguments) -> ReadStepped
+    ensures { λ r. ⌜ r ≡ hitRead registry given ⌝ }
+{
+    let view = given.view;
+    let point = given.point;
+    let outcome = hit_test_refusal(registry, view, given.length as usize);
+    ReadStepped {
+        outcome,
+        shown: shown_if(outcome, Shown::Hits),
+        hits: hits_if(outcome, registry, view, point),
+    }
+}
+
+fn read_local(given: InversePointArguments) -> ReadStepped
+    ensures { λ r. ⌜ r ≡ localRead given ⌝ }
+{
+    let transform = given.transform;
+    let point = given.point;
+    let local = transform.inverse_point(point.x_milli, point.y_milli);
+    read(Outcome::Accepted, Shown::Local(local))
+}
+
+pub fn read_step(
+    registry: CompositionRegistry,
+    router: PlatformInputRouter,
+    call: ReadCall,
+) -> ReadStepped
+    ensures { λ r. ⌜ r ≡ readStep registry router call ⌝ }
+{
+    match call {
+        ReadCall::ViewWindow(view) => {
+            let found = view_window(registry, view);
+            let outcome = found.outcome;
+            let window = found.window;
+            read(outcome, Shown::Window(window))
+        }
+        ReadCall::ViewMetrics(view) => {
+            let found = view_metrics(registry, view);
+            let outcome = found.outcome;
+            let metrics = found.metrics;
+            read(outcome, Shown::Metrics(metrics))
+        }
+        ReadCall::ViewInputState(view) => {
+            let found = view_input_state(registry, view);
+            let outcome = found.outcome;
+            let state = found.state;
+            read(outcome, Shown::InputState(state))
+        }
+        ReadCall::ViewPointerCaptures(view) => {
+            let found = view_pointer_captures(registry, view);
+            let outcome = found.outcome;
+            read(outcome, Shown::Captures(view))
+        }
+        ReadCall::SurfaceDescriptor(surface) => {
+            let found = surface_descriptor(registry, surface);
+            let outcome = found.outcome;
+            let descriptor = found.descriptor;
+            read(outcome, Shown::Descriptor(descriptor))
+        }
+        ReadCall::ViewLayers(view) => {
+            let found = view_layers(registry, view);
+            let outcome = found.outcome;
+            read(outcome, Shown::Layers(view))
+        }
+        ReadCall::Traces => read(Outcome::Accepted, Shown::Traces),
+        ReadCall::Counts => read(Outcome::Accepted, Shown::Counts(count(registry))),
+        ReadCall::ActiveBindingCount => read(
+            Outcome::Accepted,
+            Shown::BindingCount(router.active_binding_count() as u64),
+        ),
+        ReadCall::HitTestStack(given) => read_hits(registry, given),
+        ReadCall::InversePoint(given) => read_local(given),
+    }
+}
