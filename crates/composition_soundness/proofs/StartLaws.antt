@@ -27,7 +27,7 @@ use Rattle.composition_state.proofs.SettleLaws.{accepted-eq, then-last, if-acce
 use Rattle.composition_soundness.proofs.CaseLaws.{or-left, or-right, then-first}
 use Rattle.composition_soundness.proofs.PartLaws.{Parts}
 
-none-live : (h : GenerationalHandle) → lookupOf emptyArena h ≡ Live → ⊥
+pub none-live : (h : GenerationalHandle) → lookupOf emptyArena h ≡ Live → ⊥
 unfolding emptyArena
 none-live h e = below (live-facts emptyArena h e .used)
   where

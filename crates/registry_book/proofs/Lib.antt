@@ -1,0 +1,15 @@
+pub mod ListLaws
+pub mod GatherLaws
+pub mod HeldLaws
+pub mod AgreeLaws
+pub mod UnreadLaws
+pub mod PrimaryLaws
+pub mod ViewLaws
+pub mod CaptureLaws
+pub mod DeviceLaws
+pub mod SlotLaws
+pub mod LayerLaws
+pub mod AttachLaws
+pub mod CloseLaws
+pub mod DeliveryLaws
+pub mod ClaimLaws
