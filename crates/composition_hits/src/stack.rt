@@ -56,7 +56,11 @@ pub fn layers_of(views: ViewTable, view: GenerationalHandle) -> Layers
 }
 
 // Document 01: 42, 8/9, 41.
-pub fn hit_test_refusal(registry: CompositionRegistry, view: GenerationalHandle, size: usize) -> Outcome
+pub fn hit_test_refusal(
+    registry: CompositionRegistry,
+    view: GenerationalHandle,
+    size: usize,
+) -> Outcome
     ensures { λ r. ⌜ r ≡ hitTestRefusal registry view size ⌝ }
 {
     let views = registry.views;

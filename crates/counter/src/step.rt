@@ -11,10 +11,6 @@ use calls::call::Call;
 use calls::call::CloseCall;
 use calls::call::Lists;
 use calls::call::RouterCall;
-use registry_step::steps::RegistryStepped;
-use registry_step::steps::input_step;
-use registry_step::steps::panel_step;
-use registry_step::steps::shortcut_step;
 use composition_arbitration::arbitrate::Arbitrated;
 use composition_arbitration::arbitrate::arbitrate;
 use composition_close::answer::Shutdown;
@@ -34,6 +30,10 @@ use input_router::releases::Released;
 use input_router::router::PlatformInputRouter;
 use read_step::steps::ReadStepped;
 use read_step::steps::read_step;
+use registry_step::steps::RegistryStepped;
+use registry_step::steps::input_step;
+use registry_step::steps::panel_step;
+use registry_step::steps::shortcut_step;
 
 // The program's whole state.
 pub struct Counter {
@@ -245,7 +245,10 @@ fn router_step(counter: Counter, call: RouterCall) -> Stepped
     let router = counter.router;
     match call {
         RouterCall::Route(event) => from_routed(route(registry, router, event)),
-        RouterCall::ReleaseSurface(surface) => from_released(registry, router.release_surface(surface)),
+        RouterCall::ReleaseSurface(surface) => from_released(
+            registry,
+            router.release_surface(surface),
+        ),
         RouterCall::ReleaseAll => from_released(registry, router.release_all()),
     }
 }

@@ -37,12 +37,14 @@ live-surface-count-requires c κs = search needs
 -- src/answer.rt:44:1
 returns : tie.Need-returns
 returns c =
-    simp (← c .live-surface-count .ensures,
+    simp (
+      ← c .live-surface-count .ensures,
       ← c .before .live-view-count .ensures,
       ← c .before .before .live-window-count .ensures,
       ← c .before .before .before .revision .ensures,
       ← c .before .before .before .before .session-epoch .ensures,
-      ← c .before .before .before .before .before .session .ensures)
+      ← c .before .before .before .before .before .session .ensures,
+    )
 
 pub count-spec : {M : Type 1} → statement M
 count-spec =

@@ -22,9 +22,11 @@ hits-if-requires c κs = search needs
 -- src/steps.rt:48:1
 returns : tie.Need-returns
 returns c =
-    simp (← c .hits-if .ensures,
+    simp (
+      ← c .hits-if .ensures,
       ← c .before .shown-if .ensures,
-      ← c .before .before .hit-test-refusal .ensures)
+      ← c .before .before .hit-test-refusal .ensures,
+    )
 
 pub read-hits-spec : {M : Type 1} → statement M
 read-hits-spec =
