@@ -12,9 +12,9 @@ use Rattle.composition_close.specs.declared.answer.SurfaceCloseReport.{SurfaceC
 use Rattle.composition_close.specs.Reports.{noReport as notClosed, noShutdown}
 use Rattle.input_router.specs.declared.release_list.Releases.{Releases}
 use Rattle.input_router.specs.ReleaseLists.{releases}
-use Rattle.input_route.specs.declared.answer.PlatformInputRoutingReport.{PlatformInputRoutingReport}
-use Rattle.input_route.specs.declared.answer.RouteKind.the-variants as kind
-use Rattle.input_route.specs.Answers.{noResult}
+use Rattle.input_releases.specs.declared.answer.PlatformInputRoutingReport.{PlatformInputRoutingReport}
+use Rattle.input_releases.specs.declared.answer.RouteKind.the-variants as kind
+use Rattle.input_releases.specs.Answers.{noResult}
 use Rattle.read_step.specs.declared.answer.Shown.the-variants as shown
 use Rattle.read_step.specs.Reads.{hitTable}
 use Rattle.counter.specs.declared.answer.Listed.{Listed}

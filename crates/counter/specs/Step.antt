@@ -10,8 +10,8 @@ use Rattle.composition_input.specs.declared.answer.CapturesReleased.{CapturesRe
 use Rattle.composition_input.specs.Captures.{releaseDevicePointerCaptures}
 use Rattle.input_events.specs.declared.error.PlatformInputError.the-variants.{Damaged}
 use Rattle.input_events.specs.RouterErrors.{fromComposition, routerRefusalIf}
-use Rattle.input_route.specs.declared.answer.Routed.{Routed}
-use Rattle.input_route.specs.Answers.{noReport}
+use Rattle.input_releases.specs.declared.answer.Routed.{Routed}
+use Rattle.input_releases.specs.Answers.{noReport}
 use Rattle.input_route.specs.Route.{routed}
 use Rattle.input_router.specs.declared.releases.Released.{Released}
 use Rattle.input_router.specs.declared.router.PlatformInputRouter.{PlatformInputRouter}

@@ -28,12 +28,12 @@ use Rattle.input_router.specs.declared.router.PlatformInputRouter.{PlatformInpu
 use Rattle.input_router.specs.Order.{recorded}
 use Rattle.input_router.specs.Presses.{heldBy, opened, ended}
 use Rattle.input_router.specs.ReleaseLists.{releases}
-use Rattle.input_route.specs.declared.answer.PlatformInputRoutingReport.{PlatformInputRoutingReport}
-use Rattle.input_route.specs.declared.answer.RouteKind.the-variants as kind
-use Rattle.input_route.specs.declared.answer.Routed.{Routed}
-use Rattle.input_route.specs.Answers.{refusedWith}
+use Rattle.input_releases.specs.declared.answer.PlatformInputRoutingReport.{PlatformInputRoutingReport}
+use Rattle.input_releases.specs.declared.answer.RouteKind.the-variants as kind
+use Rattle.input_releases.specs.declared.answer.Routed.{Routed}
+use Rattle.input_releases.specs.Answers.{refusedWith}
 use Rattle.input_route.specs.Checks.{routeRefusal}
-use Rattle.input_route.specs.Losses.{routedDisconnect, routedLoss}
+use Rattle.input_releases.specs.Losses.{routedDisconnect, routedLoss}
 
 -- the panel that holds the press of an event
 abbrev pub heldAt : PlatformInputRouter → OptionalPress → OptionalHandle

@@ -1,5 +1,3 @@
 // `route`: one event of a device, from its checks to the panels that get it and the presses that it opens, moves or ends.
-pub mod answer;
 pub mod checks;
-pub mod losses;
 pub mod route;

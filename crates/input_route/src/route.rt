@@ -1,13 +1,13 @@
 // One event, routed: its checks, what is recorded, and then the disconnect, the loss or the arbitration.
 ghost use mathlib.Core.Path.{_≡_};
 ghost use Rattle.input_route.specs.Route.{heldFor, hitsFor, tracked, arbitratedReport, arbitratedAfter, routedArbitration, routedPayload, recordedEvent, routed};
-use crate::answer::PlatformInputRoutingReport;
-use crate::answer::RouteKind;
-use crate::answer::Routed;
-use crate::answer::refused;
+use input_releases::answer::PlatformInputRoutingReport;
+use input_releases::answer::RouteKind;
+use input_releases::answer::Routed;
+use input_releases::answer::refused;
 use crate::checks::route_refusal;
-use crate::losses::route_disconnect;
-use crate::losses::route_loss;
+use input_releases::losses::route_disconnect;
+use input_releases::losses::route_loss;
 use composition_arbitration::arbitrate::Arbitrated;
 use composition_arbitration::arbitrate::ArbitrationResult;
 use composition_arbitration::arbitrate::arbitrate;

@@ -5,7 +5,7 @@ use Rattle.counter.proofs.answer.of_releases.Statement.{statement}
 use Rattle.counter.proofs.answer.of_releases.Tie as tie
 use Rattle.counter.proofs.answer.of_releases.Reads as reads
 use Rattle.counter.proofs.answer.of_releases.Lts as lts
-use Rattle.input_route.proofs.answer.no_result.Reads as no-result-reads
+use Rattle.input_releases.proofs.answer.no_result.Reads as no-result-reads
 
 -- src/answer.rt:166:9
 no-result-requires : tie.Need-no-result-requires

@@ -8,7 +8,7 @@ use Rattle.counter.proofs.answer.Listed.of_shutdown.Reads as of-shutdow
 use Rattle.counter.proofs.answer.Made.nothing.Reads as answer-Made-nothing-reads
 use Rattle.counter.proofs.answer.ReadOut.nothing.Reads as answer-ReadOut-nothing-reads
 use Rattle.input_events.proofs.error.from_composition.Reads as from-composition-reads
-use Rattle.input_route.proofs.answer.no_report.Reads as no-report-reads
+use Rattle.input_releases.proofs.answer.no_report.Reads as no-report-reads
 
 -- src/step.rt:149:9
 from-composition-requires : tie.Need-from-composition-requires

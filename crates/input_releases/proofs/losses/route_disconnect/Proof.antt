@@ -1,9 +1,9 @@
 -- `route_disconnect` meets its contract, by whether the registry refuses the release of the captures.
 use mathlib.Core.Path.{sym}
-use Rattle.input_route.specs.Losses.{routedDisconnect}
+use Rattle.input_releases.specs.Losses.{routedDisconnect}
 use borrow.Author.Needs.{needs}
-use Rattle.input_route.proofs.losses.route_disconnect.Statement.{statement}
-use Rattle.input_route.proofs.losses.route_disconnect.Tie as tie
+use Rattle.input_releases.proofs.losses.route_disconnect.Statement.{statement}
+use Rattle.input_releases.proofs.losses.route_disconnect.Tie as tie
 
 device-presses-requires : tie.Need-device-presses-requires
 device-presses-requires c κs = search needs

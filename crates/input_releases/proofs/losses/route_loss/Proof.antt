@@ -1,9 +1,9 @@
 -- `route_loss` meets its contract, by whether a closed owner was met.
 use mathlib.Core.Path.{sym}
-use Rattle.input_route.specs.Losses.{routedLoss}
+use Rattle.input_releases.specs.Losses.{routedLoss}
 use borrow.Author.Needs.{needs}
-use Rattle.input_route.proofs.losses.route_loss.Statement.{statement}
-use Rattle.input_route.proofs.losses.route_loss.Tie as tie
+use Rattle.input_releases.proofs.losses.route_loss.Statement.{statement}
+use Rattle.input_releases.proofs.losses.route_loss.Tie as tie
 
 record-requires : tie.Need-record-requires
 record-requires c κs = search needs

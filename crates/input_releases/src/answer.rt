@@ -1,6 +1,6 @@
 // What `route` answers.
 ghost use mathlib.Core.Path.{_≡_};
-ghost use Rattle.input_route.specs.Answers.{noResult, noReport, refusedWith};
+ghost use Rattle.input_releases.specs.Answers.{noResult, noReport, refusedWith};
 use composition_arbitration::arbitrate::ArbitrationResult;
 use composition_input::answer::OptionalInputState;
 use composition_state::registry::CompositionRegistry;

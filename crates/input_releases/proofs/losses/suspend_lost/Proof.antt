@@ -1,9 +1,9 @@
 -- `suspend_lost` meets its contract, by the outcome of the suspension.
 use mathlib.Core.Path.{sym}
-use Rattle.input_route.specs.Losses.{suspendedLoss}
+use Rattle.input_releases.specs.Losses.{suspendedLoss}
 use borrow.Author.Needs.{needs}
-use Rattle.input_route.proofs.losses.suspend_lost.Statement.{statement}
-use Rattle.input_route.proofs.losses.suspend_lost.Tie as tie
+use Rattle.input_releases.proofs.losses.suspend_lost.Statement.{statement}
+use Rattle.input_releases.proofs.losses.suspend_lost.Tie as tie
 
 suspend-view-input-requires : tie.Need-suspend-view-input-requires
 suspend-view-input-requires c κs = search needs

@@ -1,7 +1,7 @@
 -- `no_report` meets its contract: a blank arbitration and an empty list.
 use borrow.Author.Needs.{needs}
-use Rattle.input_route.proofs.answer.no_report.Statement.{statement}
-use Rattle.input_route.proofs.answer.no_report.Tie as tie
+use Rattle.input_releases.proofs.answer.no_report.Statement.{statement}
+use Rattle.input_releases.proofs.answer.no_report.Tie as tie
 
 no-result-requires : tie.Need-no-result-requires
 no-result-requires c κs = search needs

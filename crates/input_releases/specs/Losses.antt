@@ -23,10 +23,10 @@ use Rattle.input_router.specs.declared.view_releases.ViewReleased.{ViewReleased
 use Rattle.input_router.specs.ReleaseLists.{releases, addCaptures}
 use Rattle.input_router.specs.Releases.{devicePresses, withoutDevicePresses, withoutDevice}
 use Rattle.input_router.specs.ViewReleases.{releaseView}
-use Rattle.input_route.specs.declared.answer.PlatformInputRoutingReport.{PlatformInputRoutingReport}
-use Rattle.input_route.specs.declared.answer.RouteKind.the-variants.{Disconnected, ViewReleased as ViewGone}
-use Rattle.input_route.specs.declared.answer.Routed.{Routed}
-use Rattle.input_route.specs.Answers.{noResult, refusedWith}
+use Rattle.input_releases.specs.declared.answer.PlatformInputRoutingReport.{PlatformInputRoutingReport}
+use Rattle.input_releases.specs.declared.answer.RouteKind.the-variants.{Disconnected, ViewReleased as ViewGone}
+use Rattle.input_releases.specs.declared.answer.Routed.{Routed}
+use Rattle.input_releases.specs.Answers.{noResult, refusedWith}
 
 -- a disconnect lists releases and answers the registry's revision
 abbrev pub disconnectReport : Releases → ℕ → PlatformInputRoutingReport

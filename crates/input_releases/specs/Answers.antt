@@ -10,9 +10,9 @@ use Rattle.input_events.specs.declared.error.PlatformInputError.{PlatformInputE
 use Rattle.input_events.specs.declared.error.RouterOutcome.the-variants.{Refused}
 use Rattle.input_router.specs.declared.router.PlatformInputRouter.{PlatformInputRouter}
 use Rattle.input_router.specs.ReleaseLists.{releases}
-use Rattle.input_route.specs.declared.answer.PlatformInputRoutingReport.{PlatformInputRoutingReport}
-use Rattle.input_route.specs.declared.answer.RouteKind.the-variants.{Nothing}
-use Rattle.input_route.specs.declared.answer.Routed.{Routed}
+use Rattle.input_releases.specs.declared.answer.PlatformInputRoutingReport.{PlatformInputRoutingReport}
+use Rattle.input_releases.specs.declared.answer.RouteKind.the-variants.{Nothing}
+use Rattle.input_releases.specs.declared.answer.Routed.{Routed}
 
 -- an event that was not arbitrated has no delivery and no consumer
 abbrev pub noResult : ArbitrationResult

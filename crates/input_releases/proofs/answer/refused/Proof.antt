@@ -1,7 +1,7 @@
 -- `refused` meets its contract: an empty report beside the two states.
 use borrow.Author.Needs.{needs}
-use Rattle.input_route.proofs.answer.refused.Statement.{statement}
-use Rattle.input_route.proofs.answer.refused.Tie as tie
+use Rattle.input_releases.proofs.answer.refused.Statement.{statement}
+use Rattle.input_releases.proofs.answer.refused.Tie as tie
 
 no-report-requires : tie.Need-no-report-requires
 no-report-requires c κs = search needs

@@ -1,7 +1,7 @@
 -- `no_result` meets its contract: no delivery and no consumer.
 use borrow.Author.Needs.{needs}
-use Rattle.input_route.proofs.answer.no_result.Statement.{statement}
-use Rattle.input_route.proofs.answer.no_result.Tie as tie
+use Rattle.input_releases.proofs.answer.no_result.Statement.{statement}
+use Rattle.input_releases.proofs.answer.no_result.Tie as tie
 
 new-requires : tie.Need-new-requires
 new-requires c κs = search needs

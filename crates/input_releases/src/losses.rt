@@ -1,6 +1,6 @@
 // What a device's disconnect and a view's loss release.
 ghost use mathlib.Core.Path.{_≡_};
-ghost use Rattle.input_route.specs.Losses.{disconnectReport, routedDisconnect, lossReport, suspendedLoss, routedLoss};
+ghost use Rattle.input_releases.specs.Losses.{disconnectReport, routedDisconnect, lossReport, suspendedLoss, routedLoss};
 use crate::answer::PlatformInputRoutingReport;
 use crate::answer::RouteKind;
 use crate::answer::Routed;
