@@ -1,13 +1,7 @@
 // One event, routed: its checks, what is recorded, and then the disconnect, the loss or the arbitration.
 ghost use mathlib.Core.Path.{_≡_};
 ghost use Rattle.input_route.specs.Route.{heldFor, hitsFor, tracked, arbitratedReport, arbitratedAfter, routedArbitration, routedPayload, recordedEvent, routed};
-use input_releases::answer::PlatformInputRoutingReport;
-use input_releases::answer::RouteKind;
-use input_releases::answer::Routed;
-use input_releases::answer::refused;
 use crate::checks::route_refusal;
-use input_releases::losses::route_disconnect;
-use input_releases::losses::route_loss;
 use composition_arbitration::arbitrate::Arbitrated;
 use composition_arbitration::arbitrate::ArbitrationResult;
 use composition_arbitration::arbitrate::arbitrate;
@@ -30,6 +24,12 @@ use input_events::presses::OptionalPress;
 use input_events::presses::effect_of;
 use input_events::presses::press_of;
 use input_events::presses::receiver;
+use input_releases::answer::PlatformInputRoutingReport;
+use input_releases::answer::RouteKind;
+use input_releases::answer::Routed;
+use input_releases::answer::refused;
+use input_releases::losses::route_disconnect;
+use input_releases::losses::route_loss;
 use input_router::release_list::Releases;
 use input_router::router::PlatformInputRouter;
 

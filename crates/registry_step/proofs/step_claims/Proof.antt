@@ -1,4 +1,4 @@
--- The claims hold: they are proved in `RegistryStepLaws.antt`.
+-- The claims hold: they are proved in `StepLaws.antt`.
 use Rattle.registry_step.proofs.StepLaws.{panel-settles, input-settles, shortcut-settles}
 use Rattle.registry_step.proofs.step_claims.Statement.{statement}
 use Rattle.registry_step.proofs.step_claims.Tie as tie
