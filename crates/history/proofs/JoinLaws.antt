@@ -1,0 +1,125 @@
+-- How a counter stands to the book between two calls, and what one call has to show: its releases are those owed, none twice, and the book goes on standing so.
+use mathlib.Core.Path.{_≡_, refl, sym, ap, _∙_, subst}
+use mathlib.Core.Bool.{Bool, true, false, _||_}
+use mathlib.Core.List.{List, [], _∷_}
+use mathlib.Core.Option.{Option, none, some}
+use lib.Dec.{eqb}
+use Rattle.lists.specs.Lists.{keep, all}
+use Rattle.lists.specs.Maps.{rising}
+use Rattle.lists.proofs.ListLaws.{by-test, and-left, and-right, and-both}
+use Rattle.handles.specs.Handles.{sameHandle}
+use Rattle.handles.specs.declared.handle.GenerationalHandle.{GenerationalHandle}
+use Rattle.maps.specs.declared.bindings.Binding.{Binding}
+use Rattle.composition_state.specs.declared.error.CompositionError.{CompositionError}
+use Rattle.composition_state.specs.declared.error.CompositionError.the-variants.{RevisionExhausted, GenerationExhausted}
+use Rattle.composition_state.specs.declared.error.Outcome.{Outcome}
+use Rattle.composition_state.specs.declared.error.Outcome.the-variants.{Accepted, Refused}
+use Rattle.composition_state.specs.declared.registry.CompositionRegistry.{CompositionRegistry}
+use Rattle.composition_state.specs.Errors.{errorNumber}
+use Rattle.composition_soundness.proofs.ListLaws.{all-as}
+use Rattle.input_events.specs.declared.error.PlatformInputError.the-variants.{Composition}
+use Rattle.input_events.specs.RouterErrors.{routerNumberOf, fromComposition}
+use Rattle.input_router.specs.Router.{pressesOf}
+use Rattle.book.specs.Book.{Book, heldKey, heldLt, withPresses}
+use Rattle.book.specs.Notes.{noted, note}
+use Rattle.book.specs.Owed.{noneTwice, owedOnce, owed}
+use Rattle.registry_book.specs.Agreement.{isOpen, Agrees, Keeps, KeepsBut}
+use Rattle.counter.specs.declared.step.Counter.{Counter}
+use Rattle.history.specs.Histories.{Entry}
+use Rattle.history.specs.Demand.{closedBy, closedIn}
+use Rattle.history.proofs.NumberLaws.{refused-number}
+
+-- the panel that the last call closed
+abbrev pub isPending : Option GenerationalHandle → GenerationalHandle → Bool
+isPending none h = false
+isPending (some g) h = sameHandle g h
+
+-- a press's panel is live, or was just closed
+abbrev pub isHosted : Option GenerationalHandle → CompositionRegistry → Binding → Bool
+isHosted p r x = isOpen r (x .surface) || isPending p (x .surface)
+
+pub record Joined (p : Option GenerationalHandle) (c : Counter) (b : Book) : Type 0 where
+  pub agrees : Agrees (c .registry) b
+  -- the router holds exactly the open presses
+  pub presses : pressesOf (c .router) ≡ b .presses
+  pub hosted : all (isHosted p (c .registry)) (b .presses) ≡ true
+  -- the book's captures are in order
+  pub captures-rise : rising heldKey heldLt (b .captures) ≡ true
+
+-- a call with its answer, from a book, to a counter
+pub record Right (e : Entry) (b : Book) (after : Counter) : Type 0 where
+  pub listed : e .listed ≡ owed (e .call) (e .told) b
+  pub once : noneTwice (e .listed) ≡ true
+  pub next : Joined (closedIn e) after (note (e .call) (e .told) b)
+
+-- the answers that the premises leave
+pub record Answered (e : Entry) : Type 0 where
+  pub not-21 : e .told .number ≡ 21 → ⊥
+  pub not-22 : e .told .number ≡ 22 → ⊥
+
+none-once : {l : List Binding} → l ≡ [] → noneTwice l ≡ true
+unfolding noneTwice
+none-once q = ap noneTwice q
+
+-- a refused call lists nothing, and the book stays
+pub refused : (e : Entry) (b : Book) (after : Counter) → eqb (e .told .number) 0 ≡ false → e .listed ≡ [] → Joined none after b → Right e b after
+unfolding owed note
+refused e b after n q j = record { listed = rw n q; once = none-once q; next = rw n j }
+
+pub accepted : (e : Entry) (b : Book) (after : Counter) → eqb (e .told .number) 0 ≡ true → e .listed ≡ owedOnce (e .call) b → noneTwice (e .listed) ≡ true
+    → Joined (closedBy (e .call)) after (noted (e .call) (e .told) b) → Right e b after
+unfolding owed note
+accepted e b after n q o j = record { listed = rw n q; once = o; next = rw n j }
+
+-- ---- live panels stay live
+or-false : (b : Bool) → (b || false) ≡ b
+or-false true = refl
+or-false false = refl
+
+or-true : (b : Bool) → (b || true) ≡ true
+or-true true = refl
+or-true false = refl
+
+pub live : (r : CompositionRegistry) (x : Binding) → isHosted none r x ≡ true → isOpen r (x .surface) ≡ true
+live r x h = sym (or-false (isOpen r (x .surface))) ∙ h
+
+pub hosts : (p : Option GenerationalHandle) (r : CompositionRegistry) (x : Binding) → isOpen r (x .surface) ≡ true → isHosted p r x ≡ true
+hosts p r x h = rw h
+
+pub still-hosted : (r after : CompositionRegistry) (l : List Binding) → Keeps r after → all (isHosted none r) l ≡ true → all (isHosted none after) l ≡ true
+still-hosted r after l k h = all-as (isHosted none r) (isHosted none after) (λ x t. hosts none after x (k .stays (x .surface) (live r x t) .0)) l h
+
+pub hosted-but : (g : GenerationalHandle) (r after : CompositionRegistry) (l : List Binding) → KeepsBut g r after → all (isHosted none r) l ≡ true → all (isHosted (some g) after) l ≡ true
+hosted-but g r after l k h = all-as (isHosted none r) (isHosted (some g) after) (λ x t. by-test (sameHandle g (x .surface))
+    (λ s. rw s (or-true (isOpen after (x .surface))))
+    (λ s. hosts (some g) after x (k .stays (x .surface) s (live r x t) .0))) l h
+
+-- ---- a call on the registry that lists nothing
+module _ (c : Counter) (b : Book) (j : Joined none c b) (e : Entry) (a : Answered e) (after : CompositionRegistry) (unlisted : e .listed ≡ []) where
+  abbrev next : Counter
+  next = record { registry = after; router = c .router }
+
+  registry-refused : (x : CompositionError) → e .told .number ≡ errorNumber x
+      → ((x ≡ RevisionExhausted → ⊥) → (x ≡ GenerationExhausted → ⊥) → after ≡ c .registry) → Right e b next
+  registry-refused x n stays =
+      let same = stays (λ q. a .not-21 (n ∙ ap errorNumber q)) (λ q. a .not-22 (n ∙ ap errorNumber q)) in
+      refused e b next (ap (λ k. eqb k 0) n ∙ refused-number (Composition x)) unlisted
+      (subst (λ (r : CompositionRegistry). Joined none (record { registry = r; router = c .router }) b) (sym same) j)
+
+  pub registry-right : (o : Outcome) → e .told .number ≡ routerNumberOf (fromComposition o) → owedOnce (e .call) b ≡ []
+      → ((x : CompositionError) → o ≡ Refused x → (x ≡ RevisionExhausted → ⊥) → (x ≡ GenerationExhausted → ⊥) → after ≡ c .registry)
+      → (o ≡ Accepted → Joined (closedBy (e .call)) next (noted (e .call) (e .told) b)) → Right e b next
+  registry-right Accepted n owes stays goes = accepted e b next (ap (λ k. eqb k 0) n) (unlisted ∙ sym owes) (none-once unlisted) (goes refl)
+  registry-right (Refused x) n owes stays goes = registry-refused x n (stays x refl)
+
+-- ---- other presses
+-- the registry says nothing of presses
+pub agrees-presses : (r : CompositionRegistry) (b : Book) (l : List Binding) → Agrees r b → Agrees r (withPresses l b)
+agrees-presses r b l a = record { captures-held = a .captures-held; homes-known = a .homes-known; held-well = a .held-well; layered = a .layered; single-mapped = a .single-mapped }
+
+-- what is known of all, and passes a test
+pub keep-so : {E : Type 0} (s p q : E → Bool) → ((e : E) → s e ≡ true → p e ≡ true → q e ≡ true) → (l : List E) → all s l ≡ true → all q (keep p l) ≡ true
+keep-so s p q f [] h = refl
+keep-so s p q f (e ∷ l) h =
+    let rest = keep-so s p q f l (and-right (s e) (all s l) h) in
+    by-test (p e) (λ t. rw t (and-both (f e (and-left (s e) (all s l) h) t) rest)) (λ t. rw t rest)

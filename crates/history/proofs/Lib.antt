@@ -1,0 +1,12 @@
+pub mod NumberLaws
+pub mod SafeLaws
+pub mod OnceLaws
+pub mod ListedLaws
+pub mod JoinLaws
+pub mod RegistryLaws
+pub mod ReleaseLaws
+pub mod RouteLaws
+pub mod LossLaws
+pub mod TrackLaws
+pub mod EventLaws
+pub mod HistoryLaws

@@ -1,0 +1,209 @@
+-- Every call on the registry is right: it lists nothing, a refusal changes nothing, and the book follows an accepted call as the registry's theorem says.
+use mathlib.Core.Path.{_≡_, refl, sym, _∙_}
+use mathlib.Core.Bool.{Bool, true, not}
+use mathlib.Core.List.{[]}
+use mathlib.Core.Option.{Option, none, some}
+use Rattle.lists.specs.Maps.{rising}
+use Rattle.lists.proofs.RisingLaws.{rising-keep, rising-insert}
+use Rattle.lists.proofs.TableLaws.{entries-packed}
+use Rattle.handles.specs.declared.handle.GenerationalHandle.{GenerationalHandle}
+use Rattle.handles.specs.declared.handle.OptionalHandle.{OptionalHandle}
+use Rattle.handles.specs.declared.handle.OptionalHandle.the-variants as handle
+use Rattle.maps.specs.declared.keys.CompositionPointerId.{CompositionPointerId}
+use Rattle.composition_state.specs.declared.error.Outcome.the-variants.{Accepted}
+use Rattle.composition_state.specs.declared.registry.CompositionRegistry.{CompositionRegistry}
+use Rattle.composition_input.specs.Captures.{primary, releaseDevicePointerCaptures}
+use Rattle.composition_input.proofs.ClaimLaws as inputs
+use Rattle.composition_shortcuts.specs.declared.register.Registrations.{Registrations}
+use Rattle.composition_shortcuts.specs.Register.{registrationList, ofMask}
+use Rattle.composition_arbitration.specs.Arbitration.{arbitrated}
+use Rattle.composition_arbitration.proofs.CallClaimLaws as arbitration
+use Rattle.composition_close.specs.Close.{closeSurface}
+use Rattle.composition_close.proofs.ClaimLaws as closes
+use Rattle.composition_soundness.specs.Claims.{Undamaged}
+use Rattle.input_router.specs.ReleaseLists.{releases}
+use Rattle.calls.specs.declared.arguments.ArbitrateArguments.{ArbitrateArguments}
+use Rattle.calls.specs.declared.arguments.DeviceArguments.{DeviceArguments}
+use Rattle.calls.specs.declared.call.Call.{Call}
+use Rattle.calls.specs.declared.call.Call.the-variants.{Panel, Input, ReleaseDevice, Shortcut, Arbitrate, Close, Read}
+use Rattle.calls.specs.declared.call.CloseCall.the-variants.{CloseSurface}
+use Rattle.calls.specs.declared.call.InputCall.{InputCall}
+use Rattle.calls.specs.declared.call.InputCall.the-variants as input
+use Rattle.calls.specs.declared.call.Lists.{Lists}
+use Rattle.calls.specs.declared.call.PanelCall.{PanelCall}
+use Rattle.calls.specs.declared.call.PanelCall.the-variants as panel
+use Rattle.calls.specs.declared.call.ReadCall.{ReadCall}
+use Rattle.calls.specs.declared.call.ShortcutCall.{ShortcutCall}
+use Rattle.calls.specs.declared.call.ShortcutCall.the-variants as shortcut
+use Rattle.book.specs.Book.{Held, Book, heldKey, heldLt, homeOf, isHeldByDevice, isHeldOnPanel, capturedIn, captured, dropCaptures}
+use Rattle.book.specs.Notes.{notedAttach, notedPanel, notedInput, notedClose, noted}
+use Rattle.book.specs.Owed.{owedOnce}
+use Rattle.read_step.specs.Reads.{readStep}
+use Rattle.registry_step.specs.Steps.{panelStep, inputStep, shortcutStep}
+use Rattle.registry_step.proofs.StepLaws.{panel-settles, input-settles, shortcut-settles}
+use Rattle.registry_book.specs.Agreement.{Agrees, Follows}
+use Rattle.registry_book.proofs.ClaimLaws as registry
+use Rattle.counter.specs.declared.step.Counter.{Counter}
+use Rattle.counter.specs.Answers.{arbitrationAlone}
+use Rattle.counter.specs.Step.{closeStep, stepped}
+use Rattle.history.specs.Histories.{Entry, entryOf}
+use Rattle.history.proofs.OnceLaws.{helds}
+use Rattle.history.proofs.JoinLaws.{Joined, Right, Answered, still-hosted, hosted-but, registry-right}
+
+-- ---- the book follows an accepted call
+module _ (r : CompositionRegistry) (u : Undamaged r) (b : Book) (a : Agrees r b) where
+  panel-follows : (call : PanelCall) → panelStep r call .outcome ≡ Accepted → Follows r (panelStep r call .registry) (notedPanel call (panelStep r call .handle) b)
+  unfolding panelStep notedPanel
+  panel-follows panel.CreateWindow q = registry.claims .create-window r b u a q
+  panel-follows (panel.CloseWindow w) q = registry.claims .close-window r b w u a q
+  panel-follows (panel.CreateView w) q = registry.claims .create-view r b w u a q
+  panel-follows (panel.UpdateViewMetrics x) q = registry.claims .metrics r b (x .view) (x .update) (x .revision) u a q
+  panel-follows (panel.CloseView v) q = registry.claims .close-view r b v u a q
+  panel-follows (panel.AttachSurface d) q = registry.claims .attach r b d u a q
+  panel-follows (panel.UpdateSurfaceGeometry x) q = registry.claims .geometry r b (x .surface) (x .geometry) (x .revision) u a q
+  panel-follows (panel.UpdateSurfaceInputPolicy x) q = registry.claims .policy r b (x .surface) (x .input) (x .revision) u a q
+
+  input-follows : (call : InputCall) → inputStep r call .outcome ≡ Accepted → Follows r (inputStep r call .registry) (notedInput call b)
+  unfolding inputStep notedInput
+  input-follows (input.SetFocus x) q = registry.claims .focus r b (x .view) (x .surface) (x .revision) u a q
+  input-follows (input.CapturePointer x) q = registry.claims .capture r b primary (x .handle) (x .revision) u a q
+  input-follows (input.CapturePointerFor x) q = registry.claims .capture r b (x .pointer) (x .surface) (x .revision) u a q
+  input-follows (input.ReleasePointer x) q = registry.claims .release r b (x .handle) (x .revision) u a q
+  input-follows (input.ReleasePointerFor x) q = registry.claims .release-for r b (x .pointer) (x .surface) (x .revision) u a q
+  input-follows (input.BeginIme x) q = registry.claims .begin-ime r b (x .handle) (x .revision) u a q
+  input-follows (input.EndIme x) q = registry.claims .end-ime r b (x .handle) (x .revision) u a q
+  input-follows (input.SuspendViewInput x) q = registry.claims .suspend r b (x .handle) (x .revision) u a q
+
+  shortcut-follows : (call : ShortcutCall) (l : Registrations) → shortcutStep r call l .outcome ≡ Accepted → Follows r (shortcutStep r call l .registry) b
+  unfolding shortcutStep
+  shortcut-follows (shortcut.RegisterSet x) l q = registry.claims .register r b (x .handle) l (x .revision) u a q
+  shortcut-follows (shortcut.RegisterOne x) l q = registry.claims .register r b (x .surface) (registrationList (x .registration)) (x .revision) u a q
+  shortcut-follows (shortcut.SetMask x) l q = registry.claims .register r b (x .surface) (registrationList (ofMask (x .«class_mask»))) (x .revision) u a q
+
+-- ---- these calls leave the presses, and the captures in order
+pub record Quiet (b after : Book) : Type 0 where
+  pub presses : after .presses ≡ b .presses
+  pub captures-rise : rising heldKey heldLt (after .captures) ≡ true
+
+module _ (b : Book) (rise : rising heldKey heldLt (b .captures) ≡ true) where
+  pub same-quiet : Quiet b b
+  same-quiet = record { presses = refl; captures-rise = rise }
+
+  drop-quiet : (p : Held → Bool) → Quiet b (dropCaptures p b)
+  unfolding dropCaptures
+  drop-quiet p = record { presses = refl; captures-rise = rising-keep heldKey helds (λ x. not (p x)) (b .captures) rise }
+
+  in-quiet : (o : Option GenerationalHandle) (p : CompositionPointerId) (h : GenerationalHandle) → Quiet b (capturedIn o p h b)
+  in-quiet none p h = same-quiet
+  in-quiet (some view) p h = record { presses = refl; captures-rise = rising-insert heldKey helds _ (b .captures) rise }
+
+  capture-quiet : (p : CompositionPointerId) (h : GenerationalHandle) → Quiet b (captured p h b)
+  unfolding captured
+  capture-quiet p h = in-quiet (homeOf h (b .homes)) p h
+
+  attach-quiet : (made : OptionalHandle) (view : GenerationalHandle) → Quiet b (notedAttach made view b)
+  attach-quiet handle.None view = same-quiet
+  attach-quiet (handle.Some h) view = record { presses = refl; captures-rise = rise }
+
+  panel-quiet : (call : PanelCall) (made : OptionalHandle) → Quiet b (notedPanel call made b)
+  unfolding notedPanel
+  panel-quiet panel.CreateWindow made = same-quiet
+  panel-quiet (panel.CloseWindow w) made = same-quiet
+  panel-quiet (panel.CreateView w) made = same-quiet
+  panel-quiet (panel.UpdateViewMetrics x) made = same-quiet
+  panel-quiet (panel.CloseView v) made = same-quiet
+  panel-quiet (panel.AttachSurface d) made = attach-quiet made (d .view)
+  panel-quiet (panel.UpdateSurfaceGeometry x) made = same-quiet
+  panel-quiet (panel.UpdateSurfaceInputPolicy x) made = same-quiet
+
+  input-quiet : (call : InputCall) → Quiet b (notedInput call b)
+  unfolding notedInput
+  input-quiet (input.SetFocus x) = same-quiet
+  input-quiet (input.CapturePointer x) = capture-quiet primary (x .handle)
+  input-quiet (input.CapturePointerFor x) = capture-quiet (x .pointer) (x .surface)
+  input-quiet (input.ReleasePointer x) = drop-quiet _
+  input-quiet (input.ReleasePointerFor x) = drop-quiet _
+  input-quiet (input.BeginIme x) = same-quiet
+  input-quiet (input.EndIme x) = same-quiet
+  input-quiet (input.SuspendViewInput x) = drop-quiet _
+
+pub follow : (c : Counter) (b b′ : Book) (after : CompositionRegistry) → Joined none c b → Follows (c .registry) after b′ → Quiet b b′ → Joined none (record { registry = after; router = c .router }) b′
+follow c b b′ after j f q = record {
+  agrees = f .agrees;
+  presses = j .presses ∙ sym (q .presses);
+  hosted = still-hosted (c .registry) after (b′ .presses) (f .keeps) (rw (q .presses) (j .hosted));
+  captures-rise = q .captures-rise;
+}
+
+-- ---- each kind of call
+abbrev pub entry : Counter → Call → Lists → Entry
+entry c call l = entryOf call (stepped c call l .answer)
+
+-- a call that the premises leave is right
+abbrev pub Goes : Counter → Book → Call → Lists → Type 0
+Goes c b call l = Answered (entry c call l) → Right (entry c call l) b (stepped c call l .counter)
+
+module _ (c : Counter) (b : Book) (u : Undamaged (c .registry)) (j : Joined none c b) (l : Lists) where
+  pub panel-goes : (call : PanelCall) → Goes c b (Panel call) l
+  unfolding stepped owedOnce noted
+  panel-goes call a =
+      let x = panelStep (c .registry) call in
+      registry-right c b j (entry c (Panel call) l) a (x .registry) (entries-packed releases []) (x .outcome) refl refl
+      (λ e q n m. panel-settles (c .registry) call .refused e q n)
+      (λ q. follow c b (notedPanel call (x .handle) b) (x .registry) j (panel-follows (c .registry) u b (j .agrees) call q) (panel-quiet b (j .captures-rise) call (x .handle)))
+
+  pub input-goes : (call : InputCall) → Goes c b (Input call) l
+  unfolding stepped owedOnce noted
+  input-goes call a =
+      let x = inputStep (c .registry) call in
+      registry-right c b j (entry c (Input call) l) a (x .registry) (entries-packed releases []) (x .outcome) refl refl
+      (λ e q n m. input-settles (c .registry) call .refused e q n)
+      (λ q. follow c b (notedInput call b) (x .registry) j (input-follows (c .registry) u b (j .agrees) call q) (input-quiet b (j .captures-rise) call))
+
+  pub device-goes : (d : DeviceArguments) → Goes c b (ReleaseDevice d) l
+  unfolding stepped owedOnce noted
+  device-goes d a =
+      let x = releaseDevicePointerCaptures (c .registry) (d .device) (d .«device_generation») in
+      let p : Held → Bool = isHeldByDevice (record { value = d .device; generation = d .«device_generation» }) in
+      registry-right c b j (entry c (ReleaseDevice d) l) a (x .registry) (entries-packed releases []) (x .outcome) refl refl
+      (λ e q n m. inputs.claims .release-device-pointer-captures (c .registry) (d .device) (d .«device_generation») .refused e q n)
+      (λ q. follow c b (dropCaptures p b) (x .registry) j (registry.claims .device (c .registry) b (d .device) (d .«device_generation») u (j .agrees) q) (drop-quiet b (j .captures-rise) p))
+
+  pub shortcut-goes : (call : ShortcutCall) → Goes c b (Shortcut call) l
+  unfolding stepped owedOnce noted
+  shortcut-goes call a =
+      let x = shortcutStep (c .registry) call (l .registrations) in
+      registry-right c b j (entry c (Shortcut call) l) a (x .registry) (entries-packed releases []) (x .outcome) refl refl
+      (λ e q n m. shortcut-settles (c .registry) call (l .registrations) .refused e q n)
+      (λ q. follow c b b (x .registry) j (shortcut-follows (c .registry) u b (j .agrees) call (l .registrations) q) (same-quiet b (j .captures-rise)))
+
+  pub arbitrate-goes : (d : ArbitrateArguments) → Goes c b (Arbitrate d) l
+  unfolding stepped owedOnce noted arbitrationAlone
+  arbitrate-goes d a =
+      let x = arbitrated (c .registry) (d .view) (d .event) (l .hits) in
+      registry-right c b j (entry c (Arbitrate d) l) a (x .registry) (entries-packed releases []) (x .outcome) refl refl
+      (λ e q n m. arbitration.claims .refused (c .registry) (d .view) (d .event) (l .hits) e q)
+      (λ q. follow c b b (x .registry) j (registry.claims .arbitrate (c .registry) b (d .view) (d .event) (l .hits) u (j .agrees) q) (same-quiet b (j .captures-rise)))
+
+  -- the panel that closes may still have presses in the router
+  pub close-goes : (h : GenerationalHandle) → Goes c b (Close (CloseSurface h)) l
+  unfolding stepped closeStep owedOnce noted notedClose
+  close-goes h a =
+      let x = closeSurface (c .registry) h in
+      registry-right c b j (entry c (Close (CloseSurface h)) l) a (x .registry) (entries-packed releases []) (x .outcome) refl refl
+      (closes.claims .close (c .registry) h .refused)
+      (λ q.
+      let f = registry.claims .close (c .registry) b h u (j .agrees) q in
+      let s = drop-quiet b (j .captures-rise) (isHeldOnPanel h) in
+      record {
+        agrees = f .0;
+        presses = j .presses ∙ sym (s .presses);
+        hosted = hosted-but h (c .registry) (x .registry) (dropCaptures (isHeldOnPanel h) b .presses) (f .1) (rw (s .presses) (j .hosted));
+        captures-rise = s .captures-rise;
+      })
+
+  -- a call that alters nothing, accepted or refused
+  pub read-goes : (call : ReadCall) → Goes c b (Read call) l
+  unfolding stepped owedOnce noted
+  read-goes call a =
+      registry-right c b j (entry c (Read call) l) a (c .registry) (entries-packed releases []) (readStep (c .registry) (c .router) call .outcome) refl refl (λ e q n m. refl) (λ q. j)

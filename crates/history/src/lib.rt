@@ -1,0 +1,12 @@
+// What holds of every list of calls on a counter from its start.
+ghost use Rattle.history.specs.Demand.{Demand3, NeverDamaged};
+
+// Demand 3, nothing lost: every list of calls lists exactly the open presses concerned, and the router holds exactly the open ones.
+pub fn demand_3()
+    ensures { λ r. ⌜ Demand3 ⌝ }
+{}
+
+// No list of calls, of whatever kind, leads to a counter that the damage test rejects.
+pub fn never_damaged()
+    ensures { λ r. ⌜ NeverDamaged ⌝ }
+{}
