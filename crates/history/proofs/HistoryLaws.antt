@@ -1,10 +1,10 @@
 -- The theorems, by induction over the list of calls: each call is right where the last one left the counter and the book, and a closed panel is released before any other call.
+use Prim.Native.Nat.{ℕ}
 use mathlib.Core.Path.{_≡_, refl, sym, ap, _∙_, subst}
 use mathlib.Core.Logic.{_⊎_, ⊎-elim}
 use mathlib.Core.Bool.{true}
 use mathlib.Core.List.{List, [], _∷_, _++_}
 use mathlib.Core.Option.{Option, none, some}
-use Prim.Native.Nat.{ℕ}
 use native.Mathlib.Omega.{arith}
 use Rattle.lists.proofs.ListLaws.{clash}
 use Rattle.lists.proofs.TableLaws.{entries-packed}

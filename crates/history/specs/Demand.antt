@@ -1,5 +1,4 @@
 -- Demand 3: nothing lost. One statement about every list of calls from a fresh start.
-use Prim.Native.Nat.{ℕ}
 use mathlib.Core.Path.{_≡_}
 use mathlib.Core.Logic.{_⊎_}
 use mathlib.Core.Bool.{Bool, true, false}
@@ -15,10 +14,9 @@ use Rattle.input_router.specs.Damage.{isRouterSound}
 use Rattle.input_router.specs.Router.{startOutcome, pressesOf}
 use Rattle.calls.specs.declared.call.Call.{Call}
 use Rattle.calls.specs.declared.call.Call.the-variants.{Panel, Input, ReleaseDevice, Shortcut, Arbitrate, Close, Router, Read}
-use Rattle.calls.specs.declared.call.CloseCall.{CloseCall}
 use Rattle.calls.specs.declared.call.CloseCall.the-variants.{CloseSurface, Shutdown}
 use Rattle.calls.specs.declared.call.RouterCall.the-variants.{ReleaseSurface, ReleaseAll}
-use Rattle.book.specs.Book.{Told, emptyBook}
+use Rattle.book.specs.Book.{emptyBook}
 use Rattle.book.specs.Owed.{noneTwice, owed}
 use Rattle.history.specs.Histories.{Start, fresh, Asked, Entry, after, history, bookAfter}
 
