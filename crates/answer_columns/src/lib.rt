@@ -1,0 +1,12 @@
+// Columns 1 to 6 of an answer line, which are document 01's desk table, and the pieces that they are made of.
+pub mod columns;
+pub mod delivered;
+pub mod pieces;
+pub mod released;
+
+ghost use Rattle.answer_columns.specs.Claims.{ColumnClaims};
+
+// What holds of the columns of every answer.
+pub fn column_claims()
+    ensures { λ _. ⌜ ColumnClaims ⌝ }
+{}
