@@ -1,13 +1,11 @@
--- Laws of the table: a step's line is its columns and a line feed, and the steps follow one another.
+-- Laws of the table: each step takes the counter that the one before has left, and puts its line behind.
 use Prim.Native.Nat.{ℕ, _+_}
-use mathlib.Core.List.{List, [], _∷_}
+use mathlib.Core.List.{List}
 use mathlib.Core.Path.{_≡_, sym, ap, _∙_}
 use Rattle.lists.specs.Below.{iterBelow}
 use Rattle.lists.proofs.BelowLaws.{iter-none, iter-more}
 use Rattle.answer.specs.Put.{put}
 use Rattle.answer_columns.specs.Pieces.{putAll}
-use Rattle.answer_columns.specs.Columns.{columnPieces}
-use Rattle.answer_columns.proofs.PieceLaws.{chain}
 use Rattle.counter.specs.declared.step.Counter.{Counter}
 use Rattle.counter.specs.declared.step.Stepped.{Stepped}
 use Rattle.counter.specs.Step.{stepped}
@@ -17,23 +15,12 @@ use Rattle.desk.specs.declared.opening.Opened.{Opened}
 use Rattle.desk.specs.declared.opening.Places.{Places}
 use Rattle.desk.specs.Opening.{noLists, opened}
 use Rattle.desk.specs.Steps.{callOf}
-use Rattle.desk.specs.Table.{columnLine, lineAfter, linesAfter, tableAfter}
+use Rattle.desk.specs.Table.{columnLine, linePieces, lineAfter, linesAfter, tableAfter}
 
 abbrev pub State : Type 0
 State = Counter × (List ℕ × ℕ)
 
 module _ (p : Places) where
-  -- the line of one step
-  pub line : (n : ℕ) (c : Counter) (s : List ℕ × ℕ) (call : Call) (l : Lists) (done : Stepped) {t u : List ℕ × ℕ}
-      → call ≡ callOf p n → l ≡ noLists → done ≡ stepped c call l
-      → t ≡ putAll (columnPieces n (done .counter .registry .revision) (done .answer)) s → u ≡ put (10 ∷ []) t
-      → _≡_ {A = State} (done .counter, u) (lineAfter p n (c, s))
-  unfolding lineAfter
-  line n c s call l done which none taken columns feed =
-      let is : done ≡ stepped c (callOf p n) noLists = taken ∙ ap (λ (x : Call). stepped c x l) which ∙ ap (stepped c (callOf p n)) none in
-      rw (sym is)
-      (ap (λ (x : List ℕ × ℕ). (done .counter, x)) (chain (columnPieces n (done .counter .registry .revision) (done .answer)) ((10 ∷ []) ∷ []) s feed columns))
-
   -- the lines of the first steps
   abbrev pub lines : ℕ → State → State
   lines n s = iterBelow (λ i t. lineAfter p (i + 1) t) n s
@@ -41,8 +28,20 @@ module _ (p : Places) where
   pub no-line : (s : State) → s ≡ lines 0 s
   no-line s = sym (iter-none (λ i t. lineAfter p (i + 1) t) s)
 
-  pub next-line : (n : ℕ) (s : State) {t u : State} → t ≡ lines n s → u ≡ lineAfter p (n + 1) t → u ≡ lines (n + 1) s
-  next-line n s before taken = taken ∙ ap (lineAfter p (n + 1)) before ∙ sym (iter-more (λ i t. lineAfter p (i + 1) t) n s)
+  -- a step that is taken is that of the definition
+  line : (n : ℕ) (c : Counter) (t : List ℕ × ℕ) (done : Stepped) → done ≡ stepped c (callOf p n) noLists → _≡_ {A = State} (done .counter, putAll (linePieces n done) t) (lineAfter p n (c, t))
+  unfolding lineAfter
+  line n c t done is = rw (sym is)
+
+  -- one step more: the counter that it leaves, and its line
+  pub next-line : (n : ℕ) (s : State) (c : Counter) (call : Call) (l : Lists) (done : Stepped) {t u : List ℕ × ℕ}
+      → _≡_ {A = State} (c, t) (lines n s) → call ≡ callOf p (n + 1) → l ≡ noLists → done ≡ stepped c call l
+      → u ≡ putAll (linePieces (n + 1) done) t → _≡_ {A = State} (done .counter, u) (lines (n + 1) s)
+  next-line n s c call l done {t} before which none taken put-is =
+      ap (λ (x : List ℕ × ℕ). (done .counter, x)) put-is
+      ∙ line (n + 1) c t done (rw (which, none) at taken)
+      ∙ ap (lineAfter p (n + 1)) before
+      ∙ sym (iter-more (λ i t. lineAfter p (i + 1) t) n s)
 
 pub all-lines : (o : Opened) (s : List ℕ × ℕ) (n : ℕ) {t : State} → n ≡ 8 → t ≡ lines (o .places) n (o .counter, s) → t .1 ≡ linesAfter o s
 unfolding linesAfter

@@ -28,6 +28,7 @@ use Rattle.counter.specs.declared.step.Counter.{Counter}
 use Rattle.counter.specs.Step.{stepped}
 use Rattle.desk.specs.declared.opening.Created.{Created}
 use Rattle.desk.specs.declared.opening.Opened.{Opened}
+use Rattle.desk.specs.declared.opening.Viewed.{Viewed}
 
 -- no hits and no registrations
 unfoldable pub noLists : Lists
@@ -75,18 +76,23 @@ revisionShown (shown.Local p) = 0
 unfoldable pub metricsRevision : Counter → GenerationalHandle → ℕ
 metricsRevision c view = revisionShown (stepped c (Read (ViewMetrics view)) noLists .answer .read .shown)
 
--- one window, one view; seat map Interactive z 0, hold bar Observe z 1, pay sheet Exclusive z 2
-unfoldable pub openedOn : Counter → Opened
-openedOn c =
+-- one window, one view
+unfoldable pub viewOpened : Counter → Viewed
+viewOpened c =
     let window = createdBy c CreateWindow in
     let view = createdBy (window .counter) (CreateView (window .handle)) in
-    let seatMap = attached (view .counter) (view .handle) (pos 0) Interactive in
-    let holdBar = attached (seatMap .counter) (view .handle) (pos 1) Observe in
-    let paySheet = attached (holdBar .counter) (view .handle) (pos 2) Exclusive in
+    record { window = window .handle; view = view .handle; counter = view .counter }
+
+-- seat map Interactive z 0, hold bar Observe z 1, pay sheet Exclusive z 2
+unfoldable pub panelsOpened : Viewed → Opened
+panelsOpened v =
+    let seatMap = attached (v .counter) (v .view) (pos 0) Interactive in
+    let holdBar = attached (seatMap .counter) (v .view) (pos 1) Observe in
+    let paySheet = attached (holdBar .counter) (v .view) (pos 2) Exclusive in
     record {
-      places = record { window = window .handle; view = view .handle; «metrics_revision» = metricsRevision (paySheet .counter) (view .handle); «pay_sheet» = paySheet .handle };
+      places = record { window = v .window; view = v .view; «metrics_revision» = metricsRevision (paySheet .counter) (v .view); «pay_sheet» = paySheet .handle };
       counter = paySheet .counter;
     }
 
 unfoldable pub opened : Opened
-opened = openedOn startCounter
+opened = panelsOpened (viewOpened startCounter)

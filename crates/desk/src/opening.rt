@@ -1,6 +1,6 @@
 // The desk as it opens: one window, one view and the three panels, each made by a call and named by the handle that the call answers.
 ghost use mathlib.Core.Path.{_≡_};
-ghost use Rattle.desk.specs.Opening.{noLists, startCounter, handleFrom, createdBy, attached, revisionShown, metricsRevision, openedOn, opened};
+ghost use Rattle.desk.specs.Opening.{noLists, startCounter, handleFrom, createdBy, attached, revisionShown, metricsRevision, viewOpened, panelsOpened, opened};
 use calls::call::Call;
 use calls::call::Lists;
 use calls::call::PanelCall;
@@ -14,6 +14,7 @@ use composition_state::surface::SurfaceDescriptor;
 use composition_state::surface::SurfaceInputPolicy;
 use composition_state::surface::SurfaceKind;
 use composition_state::trace::Hits;
+use counter::answer::Answer;
 use counter::step::Counter;
 use counter::step::step;
 use geometry::surface::SurfaceGeometry;
@@ -33,6 +34,13 @@ pub struct Places {
 pub struct Opened {
     pub places: Places,
     pub counter: Counter,
+}
+
+// The window and the view, and the counter that has no panel yet.
+struct Viewed {
+    window: GenerationalHandle,
+    view: GenerationalHandle,
+    counter: Counter,
 }
 
 // What a call has made, and the counter after it.
@@ -84,12 +92,14 @@ fn start() -> Counter
 }
 
 // A refused call has made nothing: every later call then refuses the handle of no slot.
-fn handle_from(made: OptionalHandle) -> GenerationalHandle
-    ensures { λ r. ⌜ r ≡ handleFrom made ⌝ }
+fn handle_from(answer: Answer) -> GenerationalHandle
+    ensures { λ r. ⌜ r ≡ handleFrom (answer .made .handle) ⌝ }
 {
-    match made {
+    let made = answer.made;
+    let handle = made.handle;
+    match handle {
         OptionalHandle::None => GenerationalHandle::INVALID,
-        OptionalHandle::Some(handle) => handle,
+        OptionalHandle::Some(issued) => issued,
     }
 }
 
@@ -97,12 +107,9 @@ fn create(counter: Counter, call: PanelCall) -> Created
     ensures { λ r. ⌜ r ≡ createdBy counter call ⌝ }
 {
     let done = step(counter, Call::Panel(call), no_lists());
-    let answer = done.answer;
-    let made = answer.made;
-    let handle = made.handle;
     let next = done.counter;
     Created {
-        handle: handle_from(handle),
+        handle: handle_from(done.answer),
         counter: next,
     }
 }
@@ -128,9 +135,11 @@ fn attach(
     create(counter, PanelCall::AttachSurface(descriptor))
 }
 
-fn revision_shown(shown: Shown) -> u64
-    ensures { λ r. ⌜ r ≡ revisionShown shown ⌝ }
+fn revision_shown(answer: Answer) -> u64
+    ensures { λ r. ⌜ r ≡ revisionShown (answer .read .shown) ⌝ }
 {
+    let read = answer.read;
+    let shown = read.shown;
     if let Shown::Metrics(metrics) = shown {
         return metrics.revision;
     }
@@ -142,20 +151,30 @@ fn metrics_revision(counter: Counter, view: GenerationalHandle) -> u64
     ensures { λ r. ⌜ r ≡ metricsRevision counter view ⌝ }
 {
     let done = step(counter, Call::Read(ReadCall::ViewMetrics(view)), no_lists());
-    let answer = done.answer;
-    let read = answer.read;
-    let shown = read.shown;
-    revision_shown(shown)
+    revision_shown(done.answer)
 }
 
-fn open_on(counter: Counter) -> Opened
-    ensures { λ r. ⌜ r ≡ openedOn counter ⌝ }
+fn open_view(counter: Counter) -> Viewed
+    ensures { λ r. ⌜ r ≡ viewOpened counter ⌝ }
 {
     let first = create(counter, PanelCall::CreateWindow);
     let window = first.handle;
     let second = create(first.counter, PanelCall::CreateView(window));
     let view = second.handle;
-    let seat_map = attach(second.counter, view, 0, SurfaceInputPolicy::Interactive);
+    let next = second.counter;
+    Viewed {
+        window,
+        view,
+        counter: next,
+    }
+}
+
+fn open_panels(viewed: Viewed) -> Opened
+    ensures { λ r. ⌜ r ≡ panelsOpened viewed ⌝ }
+{
+    let window = viewed.window;
+    let view = viewed.view;
+    let seat_map = attach(viewed.counter, view, 0, SurfaceInputPolicy::Interactive);
     let hold_bar = attach(seat_map.counter, view, 1, SurfaceInputPolicy::Observe);
     let pay_sheet = attach(hold_bar.counter, view, 2, SurfaceInputPolicy::Exclusive);
     let last = pay_sheet.counter;
@@ -175,5 +194,5 @@ fn open_on(counter: Counter) -> Opened
 pub fn open_desk() -> Opened
     ensures { λ r. ⌜ r ≡ opened ⌝ }
 {
-    open_on(start())
+    open_panels(open_view(start()))
 }

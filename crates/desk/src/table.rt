@@ -3,24 +3,17 @@ ghost use mathlib.Core.Path.{_≡_};
 ghost use mathlib.Core.List.{List};
 ghost use Prim.Native.Nat.{ℕ};
 ghost use Rattle.answer.specs.Put.{put};
-ghost use Rattle.counter.specs.declared.step.Counter.{Counter as CounterState};
-ghost use Rattle.desk.specs.Table.{columnLine, lineAfter, linesAfter, tableAfter};
+ghost use Rattle.answer_columns.specs.Pieces.{putAll};
+ghost use Rattle.desk.specs.Table.{columnLine, linePieces, linesAfter, tableAfter};
 use crate::opening::Opened;
-use crate::opening::Places;
 use crate::opening::no_lists;
 use crate::opening::open_desk;
 use crate::steps::call_of;
 use answer::put::put_byte;
 use answer::put::put_bytes;
 use answer_columns::columns::put_columns;
-use counter::step::Counter;
+use counter::step::Stepped;
 use counter::step::step;
-
-// The place after a line, and the counter after its step.
-struct Written {
-    at: usize,
-    counter: Counter,
-}
 
 fn put_column_line(out: &mut [u8], at: usize) -> usize
     ensures { λ r. ⌜ _≡_ {A = List ℕ × ℕ} (now (out .exit), r) (put columnLine (now (out .entry), at)) ⌝ }
@@ -32,22 +25,15 @@ fn put_column_line(out: &mut [u8], at: usize) -> usize
     )
 }
 
-// Takes a step and puts its line.
-fn put_step(out: &mut [u8], at: usize, counter: Counter, places: Places, number: u64) -> Written
-    ensures { λ r. ⌜ _≡_ {A = CounterState × (List ℕ × ℕ)} (r .counter, (now (out .exit), r .at)) (lineAfter places number (counter, (now (out .entry), at))) ⌝ }
+// The line of a step that is taken.
+fn put_line(out: &mut [u8], at: usize, number: u64, done: Stepped) -> usize
+    ensures { λ r. ⌜ _≡_ {A = List ℕ × ℕ} (now (out .exit), r) (putAll (linePieces number done) (now (out .entry), at)) ⌝ }
 {
-    let done = step(counter, call_of(places, number), no_lists());
-    let answer = done.answer;
-    let next = done.counter;
-    let registry = next.registry;
-    let end = put_columns(out, at, number, registry.revision, answer);
-    let after = put_byte(out, end, b'\n');
-    Written {
-        at: after,
-        counter: next,
-    }
+    let end = put_columns(out, at, number, done.counter.registry.revision, done.answer);
+    put_byte(out, end, b'\n')
 }
 
+// Takes the eight steps and puts the line of each.
 fn put_steps(out: &mut [u8], at: usize, opened: Opened) -> usize
     ensures { λ r. ⌜ _≡_ {A = List ℕ × ℕ} (now (out .exit), r) (linesAfter opened (now (out .entry), at)) ⌝ }
 {
@@ -57,9 +43,9 @@ fn put_steps(out: &mut [u8], at: usize, opened: Opened) -> usize
     let mut number = 0;
     while number < 8 {
         number += 1;
-        let written = put_step(out, next, counter, places, number);
-        next = written.at;
-        counter = written.counter;
+        let done = step(counter, call_of(places, number), no_lists());
+        next = put_line(out, next, number, done);
+        counter = done.counter;
     }
     next
 }

@@ -1,23 +1,19 @@
+-- `revision_shown` meets its contract: metrics have their revision, and what else is shown has none.
+use borrow.Author.Needs.{needs}
 use Rattle.desk.specs.Opening.{revisionShown}
 use Rattle.desk.proofs.ShownLaws.{no-metrics}
-use borrow.Author.Needs.{needs}
 use Rattle.desk.proofs.opening.revision_shown.Statement.{statement}
 use Rattle.desk.proofs.opening.revision_shown.Tie as tie
-use Rattle.desk.proofs.opening.revision_shown.Reads as reads
-use Rattle.desk.proofs.opening.revision_shown.Lts as lts
 
--- src/opening.rt:128:27
 enum-known-shown : tie.Need-enum-known-shown
 enum-known-shown c = search needs
 
--- src/opening.rt:129:9
 returns : tie.Need-returns
 unfolding revisionShown
 returns c = rw (c .before .shown .given .1)
 
--- src/opening.rt:125:1
 returns-2 : tie.Need-returns-2
-returns-2 c = no-metrics (c .before .args .shown) (c .match .keys2)
+returns-2 c = no-metrics (c .before .before .args .answer .read .shown) (c .match .keys2)
 
 pub revision-shown-spec : {M : Type 1} → statement M
 revision-shown-spec = tie.close (tie.spec enum-known-shown returns returns-2)
