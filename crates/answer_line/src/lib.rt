@@ -1,5 +1,4 @@
-// An answer line, column by column.
-pub mod arbitration;
-pub mod closing;
-pub mod columns;
-pub mod hits;
+// A whole answer line: columns 1 to 8, the digests, and the line feed.
+pub mod line;
+pub mod named;
+pub mod plain;

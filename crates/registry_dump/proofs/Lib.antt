@@ -1,1 +1,3 @@
-pub mod RaiseLaws
+pub mod ArenaLaws
+pub mod TraceListLaws
+pub mod PanelLaws

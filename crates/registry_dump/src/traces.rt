@@ -1,175 +1,133 @@
 // The numbers of traces.
-use crate::groups::handle;
-use crate::groups::optional;
-use crate::groups::pointer;
-use crate::items::Items;
-use crate::sink::Sink;
-use crate::sink::take_items;
-use crate::views::take_count;
-use composition_state::trace::ArbitrationEvent;
+ghost use Prim.Native.Nat.{ℕ};
+ghost use mathlib.Core.List.{List};
+ghost use mathlib.Core.Path.{_≡_};
+ghost use lib.ListN.{length};
+ghost use Rattle.lists.specs.Tables.{entriesOf};
+ghost use Rattle.composition_state.specs.Traces.{hits, deliveries, traces};
+ghost use Rattle.answer_numbers.specs.declared.sink.Sink.{Sink};
+ghost use Rattle.answer_numbers.specs.Numbers.{numbersTaken};
+ghost use Rattle.registry_dump.specs.Traces.{fieldsNumbers, hitsNumbers, deliveryNumbers, deliveriesNumbers, traceNumbers, tracesNumbers};
+use crate::events::EventFields;
+use crate::events::event_fields;
+use answer_numbers::groups::take_handle;
+use answer_numbers::groups::take_optional;
+use answer_numbers::groups::take_pointer;
+use answer_numbers::sink::Sink;
+use answer_numbers::sink::take_count;
+use answer_numbers::sink::take_flag;
+use answer_numbers::sink::take_plain;
 use composition_state::trace::CompositionTrace;
 use composition_state::trace::Deliveries;
 use composition_state::trace::Hits;
 use composition_state::trace::InputDelivery;
 use composition_state::trace::Traces;
-use handles::handle::GenerationalHandle;
-use handles::handle::OptionalHandle;
-use maps::keys::CompositionPointerId;
 
-// An event as the numbers that each kind has; what a kind has not is 0.
-fn event_numbers(
-    items: Items,
-    kind: u64,
-    key: CompositionPointerId,
-    target: OptionalHandle,
-    class_mask: u64,
-) -> Items {
-    optional(pointer(items.plain(kind), key), target).plain(class_mask)
+fn take_fields(out: &mut [u8], sink: Sink, fields: EventFields) -> Sink
+    ensures { λ r. ⌜ _≡_ {A = List ℕ × Sink} (now (out .exit), r) (numbersTaken (fieldsNumbers fields) (now (out .entry), sink)) ⌝ }
+{
+    let pointer = fields.pointer;
+    let target = fields.target;
+    let a = take_plain(out, sink, fields.kind);
+    let b = take_pointer(out, a, pointer);
+    let c = take_optional(out, b, target);
+    take_plain(out, c, fields.class_mask)
 }
 
-fn nobody() -> CompositionPointerId {
-    CompositionPointerId {
-        device: 0,
-        device_generation: 0,
-        contact: 0,
+// A stored count past its table is read as a full table.
+fn count_hits(list: Hits) -> usize
+    ensures { λ r. ⌜ r ≡ length (entriesOf hits list) ⌝ }
+{
+    let n = list.len;
+    if n < 16 {
+        return n;
     }
+    16
 }
 
-// An event of no pointer.
-fn aimed(items: Items, kind: u64, target: OptionalHandle) -> Items {
-    event_numbers(items, kind, nobody(), target, 0)
-}
-
-fn event(items: Items, e: ArbitrationEvent) -> Items {
-    match e {
-        ArbitrationEvent::Pointer { hit } => aimed(items, 0, hit),
-        ArbitrationEvent::PointerStack => aimed(items, 1, OptionalHandle::None),
-        ArbitrationEvent::PointerFor { pointer, hit } => event_numbers(items, 2, pointer, hit, 0),
-        ArbitrationEvent::PointerStackFor { pointer } => event_numbers(
-            items,
-            3,
-            pointer,
-            OptionalHandle::None,
-            0,
-        ),
-        ArbitrationEvent::Keyboard => aimed(items, 4, OptionalHandle::None),
-        ArbitrationEvent::KeyboardFor { target } => aimed(items, 5, target),
-        ArbitrationEvent::Gamepad => aimed(items, 6, OptionalHandle::None),
-        ArbitrationEvent::GamepadFor { target } => aimed(items, 7, target),
-        ArbitrationEvent::Text => aimed(items, 8, OptionalHandle::None),
-        ArbitrationEvent::Shortcut => aimed(items, 9, OptionalHandle::None),
-        ArbitrationEvent::SystemShortcut { class_mask } => event_numbers(
-            items,
-            10,
-            nobody(),
-            OptionalHandle::None,
-            class_mask,
-        ),
-    }
-}
-
-fn hit_at(items: [GenerationalHandle; 16], i: usize) -> GenerationalHandle {
-    if i < 16 {
-        return items[i];
-    }
-    GenerationalHandle {
-        index: 0,
-        generation: 0,
-    }
-}
-
-fn hit_items(items: [GenerationalHandle; 16], i: usize) -> Items {
-    handle(Items::new(), hit_at(items, i))
-}
-
-fn take_hits(out: &mut [u8], sink: Sink, hits: Hits) -> Sink {
-    let items = hits.items;
-    let n = hits.len;
-    let mut next = sink;
+fn take_hits(out: &mut [u8], sink: Sink, hits: Hits) -> Sink
+    ensures { λ r. ⌜ _≡_ {A = List ℕ × Sink} (now (out .exit), r) (numbersTaken (hitsNumbers hits) (now (out .entry), sink)) ⌝ }
+{
+    let n = count_hits(hits);
+    let mut next = take_count(out, sink, n);
     let mut i = 0;
     while i < n {
-        next = take_items(out, next, hit_items(items, i));
+        let hit = hits.items[i];
+        next = take_handle(out, next, hit);
         i += 1;
     }
     next
 }
 
-// Past the end of the table a read is a blank.
-pub fn delivery_at(items: [InputDelivery; 16], i: usize) -> InputDelivery {
-    if i < 16 {
-        return items[i];
+fn count_deliveries(list: Deliveries) -> usize
+    ensures { λ r. ⌜ r ≡ length (entriesOf deliveries list) ⌝ }
+{
+    let n = list.len;
+    if n < 16 {
+        return n;
     }
-    let surface = GenerationalHandle {
-        index: 0,
-        generation: 0,
-    };
-    InputDelivery {
-        surface,
-        observed: false,
-    }
+    16
 }
 
-fn delivery_items(items: [InputDelivery; 16], i: usize) -> Items {
-    let delivery = delivery_at(items, i);
+fn take_delivery(out: &mut [u8], sink: Sink, delivery: InputDelivery) -> Sink
+    ensures { λ r. ⌜ _≡_ {A = List ℕ × Sink} (now (out .exit), r) (numbersTaken (deliveryNumbers delivery) (now (out .entry), sink)) ⌝ }
+{
     let surface = delivery.surface;
-    handle(Items::new(), surface).flag(delivery.observed)
+    let next = take_handle(out, sink, surface);
+    take_flag(out, next, delivery.observed)
 }
 
-fn take_deliveries(out: &mut [u8], sink: Sink, deliveries: Deliveries) -> Sink {
-    let items = deliveries.items;
-    let n = deliveries.len;
-    let mut next = sink;
+fn take_deliveries(out: &mut [u8], sink: Sink, deliveries: Deliveries) -> Sink
+    ensures { λ r. ⌜ _≡_ {A = List ℕ × Sink} (now (out .exit), r) (numbersTaken (deliveriesNumbers deliveries) (now (out .entry), sink)) ⌝ }
+{
+    let n = count_deliveries(deliveries);
+    let mut next = take_count(out, sink, n);
     let mut i = 0;
     while i < n {
-        next = take_items(out, next, delivery_items(items, i));
+        let delivery = deliveries.items[i];
+        next = take_delivery(out, next, delivery);
         i += 1;
     }
     next
 }
 
-fn trace_head(trace: CompositionTrace) -> Items {
+fn take_trace(out: &mut [u8], sink: Sink, trace: CompositionTrace) -> Sink
+    ensures { λ r. ⌜ _≡_ {A = List ℕ × Sink} (now (out .exit), r) (numbersTaken (traceNumbers trace) (now (out .entry), sink)) ⌝ }
+{
     let view = trace.view;
-    let given = trace.event;
+    let event = trace.event;
     let hits = trace.hits;
-    event(handle(Items::new().plain(trace.revision), view), given).plain(hits.len as u64)
-}
-
-fn take_trace_end(out: &mut [u8], sink: Sink, trace: CompositionTrace) -> Sink {
     let deliveries = trace.deliveries;
     let consumer = trace.consumed_by;
-    let a = take_count(out, sink, deliveries.len);
-    let b = take_deliveries(out, a, deliveries);
-    take_items(out, b, optional(Items::new(), consumer))
+    let a = take_plain(out, sink, trace.revision);
+    let b = take_handle(out, a, view);
+    let c = take_fields(out, b, event_fields(event));
+    let d = take_hits(out, c, hits);
+    let e = take_deliveries(out, d, deliveries);
+    take_optional(out, e, consumer)
 }
 
-fn take_trace(out: &mut [u8], sink: Sink, trace: CompositionTrace) -> Sink {
-    let hits = trace.hits;
-    let a = take_items(out, sink, trace_head(trace));
-    let b = take_hits(out, a, hits);
-    take_trace_end(out, b, trace)
-}
-
-fn take_trace_at(out: &mut [u8], sink: Sink, traces: Traces, i: usize) -> Sink {
-    if i < 32 {
-        let trace = traces.items[i];
-        return take_trace(out, sink, trace);
+fn count_traces(list: Traces) -> usize
+    ensures { λ r. ⌜ r ≡ length (entriesOf traces list) ⌝ }
+{
+    let n = list.len;
+    if n < 32 {
+        return n;
     }
-    sink
+    32
 }
 
-fn take_each_trace(out: &mut [u8], sink: Sink, traces: Traces) -> Sink {
-    let n = traces.len;
-    let mut next = sink;
+// The traces, oldest first.
+pub fn take_traces(out: &mut [u8], sink: Sink, traces: Traces) -> Sink
+    ensures { λ r. ⌜ _≡_ {A = List ℕ × Sink} (now (out .exit), r) (numbersTaken (tracesNumbers traces) (now (out .entry), sink)) ⌝ }
+{
+    let n = count_traces(traces);
+    let mut next = take_count(out, sink, n);
     let mut i = 0;
     while i < n {
-        next = take_trace_at(out, next, traces, i);
+        let trace = traces.items[i];
+        next = take_trace(out, next, trace);
         i += 1;
     }
     next
-}
-
-// The number of traces and each, oldest first.
-pub fn take_traces(out: &mut [u8], sink: Sink, traces: Traces) -> Sink {
-    let next = take_count(out, sink, traces.len);
-    take_each_trace(out, next, traces)
 }

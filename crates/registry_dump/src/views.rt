@@ -1,230 +1,128 @@
-// The numbers of slots and of views.
-use crate::groups::capture;
-use crate::groups::descriptor;
-use crate::groups::handle;
-use crate::groups::metrics;
-use crate::groups::optional;
-use crate::items::Items;
-use crate::sink::Sink;
-use crate::sink::take_items;
+// The numbers of views, and of a view's captures and layers.
+ghost use Prim.Native.Nat.{ℕ};
+ghost use mathlib.Core.List.{List, _++_};
+ghost use mathlib.Core.Path.{_≡_};
+ghost use lib.ListN.{getD};
+ghost use Rattle.composition_state.specs.Views.{noView};
+ghost use Rattle.answer_numbers.specs.declared.sink.Sink.{Sink};
+ghost use Rattle.answer_numbers.specs.Groups.{handleNumbers, descriptorNumbers};
+ghost use Rattle.answer_numbers.specs.Numbers.{numbersTaken};
+ghost use Rattle.registry_dump.specs.Arenas.{slotNumbers, usedSlots};
+ghost use Rattle.registry_dump.specs.Views.{capturesNumbers, viewLayersNumbers, viewNumbers, viewsNumbers};
+use crate::arenas::take_arena_end;
+use crate::arenas::take_slot;
+use answer_numbers::groups::take_capture;
+use answer_numbers::groups::take_descriptor;
+use answer_numbers::groups::take_handle;
+use answer_numbers::groups::take_metrics;
+use answer_numbers::groups::take_optional;
+use answer_numbers::handle_lists::take_layers;
+use answer_numbers::sink::Sink;
+use answer_numbers::sink::take_count;
 use composition_state::layers::Layers;
+use composition_state::surface::SurfaceDescriptor;
 use composition_state::surface::SurfaceTable;
 use composition_state::view::ViewRecord;
 use composition_state::view::ViewTable;
 use composition_state::view::record_at;
-use handles::arena::Arena;
 use handles::arena::Slot;
 use handles::arena::slot_at;
+use handles::arena::used_places;
 use handles::handle::GenerationalHandle;
-use maps::captures::Capture;
 use maps::captures::PointerCaptures;
-use maps::keys::CompositionPointerId;
 
-// The count of a list that comes after it.
-pub fn take_count(out: &mut [u8], sink: Sink, n: usize) -> Sink {
-    take_items(out, sink, Items::new().plain(n as u64))
-}
-
-pub fn take_slot(out: &mut [u8], sink: Sink, slot: Slot) -> Sink {
-    let items = Items::new().plain(slot.generation as u64).flag(slot.filled);
-    take_items(out, sink, items)
-}
-
-fn free_at(free: [u32; 64], i: usize) -> u32 {
-    if i < 64 {
-        return free[i];
-    }
-    0
-}
-
-fn free_items(free: [u32; 64], i: usize) -> Items {
-    Items::new().plain(free_at(free, i) as u64)
-}
-
-fn take_free(out: &mut [u8], sink: Sink, arena: Arena) -> Sink {
-    let free = arena.free;
-    let n = arena.freed;
-    let mut next = sink;
+// The captured pointers with their panels, by rising key.
+pub fn take_captures(out: &mut [u8], sink: Sink, captures: PointerCaptures) -> Sink
+    ensures { λ r. ⌜ _≡_ {A = List ℕ × Sink} (now (out .exit), r) (numbersTaken (capturesNumbers captures) (now (out .entry), sink)) ⌝ }
+{
+    let n = captures.count();
+    let mut next = take_count(out, sink, n);
     let mut i = 0;
     while i < n {
-        next = take_items(out, next, free_items(free, i));
+        let entry = captures.entries[i];
+        next = take_capture(out, next, entry);
         i += 1;
     }
     next
 }
 
-// What stands behind the slots: the free list, the one used next last, and the live count.
-pub fn take_arena_end(out: &mut [u8], sink: Sink, arena: Arena) -> Sink {
-    let a = take_count(out, sink, arena.freed);
-    let b = take_free(out, a, arena);
-    take_count(out, b, arena.live)
-}
-
-fn take_window_slots(out: &mut [u8], sink: Sink, arena: Arena) -> Sink {
-    let slots = arena.slots;
-    let n = arena.used;
-    let mut next = sink;
-    let mut i = 0;
-    while i < n {
-        next = take_slot(out, next, slot_at(slots, i));
-        i += 1;
-    }
-    next
-}
-
-pub fn take_windows(out: &mut [u8], sink: Sink, windows: Arena) -> Sink {
-    let a = take_count(out, sink, windows.used);
-    let b = take_window_slots(out, a, windows);
-    take_arena_end(out, b, windows)
-}
-
-fn layer_at(items: [GenerationalHandle; 16], i: usize) -> GenerationalHandle {
-    if i < 16 {
-        return items[i];
-    }
-    GenerationalHandle {
-        index: 0,
-        generation: 0,
-    }
-}
-
-fn layer_items(items: [GenerationalHandle; 16], i: usize) -> Items {
-    handle(Items::new(), layer_at(items, i))
-}
-
-fn take_layers(out: &mut [u8], sink: Sink, layers: Layers) -> Sink {
-    let items = layers.items;
-    let n = layers.count();
-    let mut next = sink;
-    let mut i = 0;
-    while i < n {
-        next = take_items(out, next, layer_items(items, i));
-        i += 1;
-    }
-    next
-}
-
-fn described_items(items: [GenerationalHandle; 16], surfaces: SurfaceTable, i: usize) -> Items {
-    let layer = layer_at(items, i);
-    descriptor(handle(Items::new(), layer), surfaces.descriptor(layer))
-}
-
-fn take_described(out: &mut [u8], sink: Sink, layers: Layers, surfaces: SurfaceTable) -> Sink {
-    let items = layers.items;
-    let n = layers.count();
-    let mut next = sink;
-    let mut i = 0;
-    while i < n {
-        next = take_items(out, next, described_items(items, surfaces, i));
-        i += 1;
-    }
-    next
+fn take_described(
+    out: &mut [u8],
+    sink: Sink,
+    layer: GenerationalHandle,
+    descriptor: SurfaceDescriptor,
+) -> Sink
+    ensures { λ r. ⌜ _≡_ {A = List ℕ × Sink} (now (out .exit), r) (numbersTaken (handleNumbers layer ++ descriptorNumbers descriptor) (now (out .entry), sink)) ⌝ }
+{
+    let next = take_handle(out, sink, layer);
+    take_descriptor(out, next, descriptor)
 }
 
 // The layers with their descriptors, lowest first.
-pub fn take_view_layers(
-    out: &mut [u8],
-    sink: Sink,
-    layers: Layers,
-    surfaces: SurfaceTable,
-) -> Sink {
-    let next = take_count(out, sink, layers.count());
-    take_described(out, next, layers, surfaces)
-}
-
-fn capture_at(entries: [Capture; 32], i: usize) -> Capture {
-    if i < 32 {
-        return entries[i];
-    }
-    let pointer = CompositionPointerId {
-        device: 0,
-        device_generation: 0,
-        contact: 0,
-    };
-    let surface = GenerationalHandle {
-        index: 0,
-        generation: 0,
-    };
-    Capture { pointer, surface }
-}
-
-fn capture_items(entries: [Capture; 32], i: usize) -> Items {
-    capture(Items::new(), capture_at(entries, i))
-}
-
-fn take_capture_entries(out: &mut [u8], sink: Sink, captures: PointerCaptures) -> Sink {
-    let entries = captures.entries;
-    let n = captures.count();
-    let mut next = sink;
+pub fn take_view_layers(out: &mut [u8], sink: Sink, layers: Layers, surfaces: SurfaceTable) -> Sink
+    ensures { λ r. ⌜ _≡_ {A = List ℕ × Sink} (now (out .exit), r) (numbersTaken (viewLayersNumbers layers surfaces) (now (out .entry), sink)) ⌝ }
+{
+    let n = layers.count();
+    let mut next = take_count(out, sink, n);
     let mut i = 0;
     while i < n {
-        next = take_items(out, next, capture_items(entries, i));
+        let layer = layers.items[i];
+        let described = surfaces.descriptor(layer);
+        next = take_described(out, next, layer, described);
         i += 1;
     }
     next
 }
 
-// The captured pointers with their panels, by rising key.
-pub fn take_captures(out: &mut [u8], sink: Sink, captures: PointerCaptures) -> Sink {
-    let next = take_count(out, sink, captures.count());
-    take_capture_entries(out, next, captures)
-}
-
-fn view_head(view: ViewRecord) -> Items {
+fn take_view(out: &mut [u8], sink: Sink, view: ViewRecord) -> Sink
+    ensures { λ r. ⌜ _≡_ {A = List ℕ × Sink} (now (out .exit), r) (numbersTaken (viewNumbers view) (now (out .entry), sink)) ⌝ }
+{
     let window = view.window;
-    let measured = view.metrics;
+    let metrics = view.metrics;
     let layers = view.surfaces;
-    metrics(handle(Items::new(), window), measured).plain(layers.count() as u64)
-}
-
-fn view_targets(view: ViewRecord) -> Items {
     let focus = view.focus;
     let single = view.pointer_capture;
-    optional(optional(Items::new(), focus), single)
-}
-
-fn take_view_end(out: &mut [u8], sink: Sink, view: ViewRecord) -> Sink {
     let captures = view.pointer_captures;
     let ime = view.ime;
-    let a = take_items(out, sink, view_targets(view));
-    let b = take_captures(out, a, captures);
-    take_items(out, b, optional(Items::new(), ime))
+    let a = take_handle(out, sink, window);
+    let b = take_metrics(out, a, metrics);
+    let c = take_layers(out, b, layers);
+    let d = take_optional(out, c, focus);
+    let e = take_optional(out, d, single);
+    let f = take_captures(out, e, captures);
+    take_optional(out, f, ime)
 }
 
-fn take_view(out: &mut [u8], sink: Sink, view: ViewRecord) -> Sink {
-    let layers = view.surfaces;
-    let a = take_items(out, sink, view_head(view));
-    let b = take_layers(out, a, layers);
-    take_view_end(out, b, view)
+fn take_view_slot(out: &mut [u8], sink: Sink, slot: Slot, view: ViewRecord) -> Sink
+    ensures { λ r. ⌜ _≡_ {A = List ℕ × Sink} (now (out .exit), r) (numbersTaken (slotNumbers (viewNumbers view) slot) (now (out .entry), sink)) ⌝ }
+{
+    let next = take_slot(out, sink, slot);
+    if slot.filled {
+        return take_view(out, next, view);
+    }
+    next
 }
 
-fn take_view_slot(out: &mut [u8], sink: Sink, views: ViewTable, i: usize) -> Sink {
+fn take_view_slots(out: &mut [u8], sink: Sink, views: ViewTable) -> Sink
+    ensures { λ r. ⌜ _≡_ {A = List ℕ × Sink} (now (out .exit), r) (numbersTaken (usedSlots (λ i. viewNumbers (getD (views .records) i noView)) (views .arena)) (now (out .entry), sink)) ⌝ }
+{
     let arena = views.arena;
     let slots = arena.slots;
     let records = views.records;
-    let slot = slot_at(slots, i);
-    let next = take_slot(out, sink, slot);
-    if slot.filled {
-        return take_view(out, next, record_at(records, i));
-    }
-    next
-}
-
-fn take_view_slots(out: &mut [u8], sink: Sink, views: ViewTable) -> Sink {
-    let arena = views.arena;
-    let n = arena.used;
-    let mut next = sink;
+    let n = used_places(arena);
+    let mut next = take_count(out, sink, n);
     let mut i = 0;
     while i < n {
-        next = take_view_slot(out, next, views, i);
+        next = take_view_slot(out, next, slot_at(slots, i), record_at(records, i));
         i += 1;
     }
     next
 }
 
-pub fn take_views(out: &mut [u8], sink: Sink, views: ViewTable) -> Sink {
+pub fn take_views(out: &mut [u8], sink: Sink, views: ViewTable) -> Sink
+    ensures { λ r. ⌜ _≡_ {A = List ℕ × Sink} (now (out .exit), r) (numbersTaken (viewsNumbers views) (now (out .entry), sink)) ⌝ }
+{
     let arena = views.arena;
-    let a = take_count(out, sink, arena.used);
-    let b = take_view_slots(out, a, views);
-    take_arena_end(out, b, arena)
+    let next = take_view_slots(out, sink, views);
+    take_arena_end(out, next, arena)
 }

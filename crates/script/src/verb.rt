@@ -4,13 +4,18 @@ ghost use mathlib.Core.Path.{_≡_};
 ghost use lib.ListN.{getD};
 ghost use Rattle.script.specs.Verbs.{verbs, verbNamed};
 
-// What a line asks for. `Unknown` stands for a line that is no call.
-pub enum Verb {
-    Unknown,
+// The script's own: digests, a new registry, a new router, dumps.
+pub enum SessionVerb {
     Digest,
     New,
     NewAt,
     Router,
+    State,
+    RouterState,
+}
+
+// Windows, views and panels.
+pub enum PanelVerb {
     CreateWindow,
     CloseWindow,
     CreateView,
@@ -19,24 +24,35 @@ pub enum Verb {
     AttachSurface,
     UpdateSurfaceGeometry,
     UpdateSurfaceInputPolicy,
-    RegisterSurfaceSystemShortcutSet,
+}
+
+// Focus, captures and the input method.
+pub enum InputVerb {
     SetFocus,
     CapturePointer,
     CapturePointerFor,
     ReleasePointer,
     ReleasePointerFor,
-    ReleaseDevicePointerCaptures,
     BeginIme,
     EndIme,
     SuspendViewInput,
-    Arbitrate,
+}
+
+pub enum CloseVerb {
     CloseSurface,
     Shutdown,
-    HitTestStack,
-    InversePoint,
+}
+
+pub enum RouterVerb {
     Route,
     ReleaseSurface,
     ReleaseAll,
+}
+
+// The calls that alter nothing.
+pub enum ReadVerb {
+    HitTestStack,
+    InversePoint,
     ViewWindow,
     ViewMetrics,
     ViewInputState,
@@ -46,53 +62,70 @@ pub enum Verb {
     Traces,
     Counts,
     ActiveBindingCount,
-    State,
-    RouterState,
+}
+
+// The calls on the registry and the router that stand.
+pub enum StepVerb {
+    Panel(PanelVerb),
+    Input(InputVerb),
+    ReleaseDevicePointerCaptures,
+    RegisterSurfaceSystemShortcutSet,
+    Arbitrate,
+    Close(CloseVerb),
+    Router(RouterVerb),
+    Read(ReadVerb),
+}
+
+// What a line asks for. `Unknown` stands for a line that is no call.
+pub enum Verb {
+    Unknown,
+    Session(SessionVerb),
+    Step(StepVerb),
 }
 
 // The verbs in the order of their names.
 const VERBS: [Verb; 41] = [
-    Verb::Digest,
-    Verb::New,
-    Verb::NewAt,
-    Verb::Router,
-    Verb::CreateWindow,
-    Verb::CloseWindow,
-    Verb::CreateView,
-    Verb::UpdateViewMetrics,
-    Verb::CloseView,
-    Verb::AttachSurface,
-    Verb::UpdateSurfaceGeometry,
-    Verb::UpdateSurfaceInputPolicy,
-    Verb::RegisterSurfaceSystemShortcutSet,
-    Verb::SetFocus,
-    Verb::CapturePointer,
-    Verb::CapturePointerFor,
-    Verb::ReleasePointer,
-    Verb::ReleasePointerFor,
-    Verb::ReleaseDevicePointerCaptures,
-    Verb::BeginIme,
-    Verb::EndIme,
-    Verb::SuspendViewInput,
-    Verb::Arbitrate,
-    Verb::CloseSurface,
-    Verb::Shutdown,
-    Verb::HitTestStack,
-    Verb::InversePoint,
-    Verb::Route,
-    Verb::ReleaseSurface,
-    Verb::ReleaseAll,
-    Verb::ViewWindow,
-    Verb::ViewMetrics,
-    Verb::ViewInputState,
-    Verb::ViewPointerCaptures,
-    Verb::SurfaceDescriptor,
-    Verb::ViewLayers,
-    Verb::Traces,
-    Verb::Counts,
-    Verb::ActiveBindingCount,
-    Verb::State,
-    Verb::RouterState,
+    Verb::Session(SessionVerb::Digest),
+    Verb::Session(SessionVerb::New),
+    Verb::Session(SessionVerb::NewAt),
+    Verb::Session(SessionVerb::Router),
+    Verb::Step(StepVerb::Panel(PanelVerb::CreateWindow)),
+    Verb::Step(StepVerb::Panel(PanelVerb::CloseWindow)),
+    Verb::Step(StepVerb::Panel(PanelVerb::CreateView)),
+    Verb::Step(StepVerb::Panel(PanelVerb::UpdateViewMetrics)),
+    Verb::Step(StepVerb::Panel(PanelVerb::CloseView)),
+    Verb::Step(StepVerb::Panel(PanelVerb::AttachSurface)),
+    Verb::Step(StepVerb::Panel(PanelVerb::UpdateSurfaceGeometry)),
+    Verb::Step(StepVerb::Panel(PanelVerb::UpdateSurfaceInputPolicy)),
+    Verb::Step(StepVerb::RegisterSurfaceSystemShortcutSet),
+    Verb::Step(StepVerb::Input(InputVerb::SetFocus)),
+    Verb::Step(StepVerb::Input(InputVerb::CapturePointer)),
+    Verb::Step(StepVerb::Input(InputVerb::CapturePointerFor)),
+    Verb::Step(StepVerb::Input(InputVerb::ReleasePointer)),
+    Verb::Step(StepVerb::Input(InputVerb::ReleasePointerFor)),
+    Verb::Step(StepVerb::ReleaseDevicePointerCaptures),
+    Verb::Step(StepVerb::Input(InputVerb::BeginIme)),
+    Verb::Step(StepVerb::Input(InputVerb::EndIme)),
+    Verb::Step(StepVerb::Input(InputVerb::SuspendViewInput)),
+    Verb::Step(StepVerb::Arbitrate),
+    Verb::Step(StepVerb::Close(CloseVerb::CloseSurface)),
+    Verb::Step(StepVerb::Close(CloseVerb::Shutdown)),
+    Verb::Step(StepVerb::Read(ReadVerb::HitTestStack)),
+    Verb::Step(StepVerb::Read(ReadVerb::InversePoint)),
+    Verb::Step(StepVerb::Router(RouterVerb::Route)),
+    Verb::Step(StepVerb::Router(RouterVerb::ReleaseSurface)),
+    Verb::Step(StepVerb::Router(RouterVerb::ReleaseAll)),
+    Verb::Step(StepVerb::Read(ReadVerb::ViewWindow)),
+    Verb::Step(StepVerb::Read(ReadVerb::ViewMetrics)),
+    Verb::Step(StepVerb::Read(ReadVerb::ViewInputState)),
+    Verb::Step(StepVerb::Read(ReadVerb::ViewPointerCaptures)),
+    Verb::Step(StepVerb::Read(ReadVerb::SurfaceDescriptor)),
+    Verb::Step(StepVerb::Read(ReadVerb::ViewLayers)),
+    Verb::Step(StepVerb::Read(ReadVerb::Traces)),
+    Verb::Step(StepVerb::Read(ReadVerb::Counts)),
+    Verb::Step(StepVerb::Read(ReadVerb::ActiveBindingCount)),
+    Verb::Session(SessionVerb::State),
+    Verb::Session(SessionVerb::RouterState),
 ];
 
 fn verb_at(i: usize) -> Verb

@@ -8,6 +8,7 @@ use Rattle.handles.specs.declared.handle.GenerationalHandle.{GenerationalHandle
 use Rattle.handles.specs.declared.handle.OptionalHandle.the-variants.{None, Some}
 use Rattle.script.specs.Lines.{zeroNumber}
 use Rattle.script.specs.Ranges.{unsignedOf, isWithin}
+use Rattle.script.specs.declared.fields.FieldU16.{FieldU16}
 use Rattle.script.specs.declared.fields.FieldU32.{FieldU32}
 use Rattle.script.specs.declared.fields.FieldU64.{FieldU64}
 use Rattle.script.specs.declared.line.Fields.{Fields}
@@ -21,7 +22,10 @@ use Rattle.script_fields.specs.declared.groups.LimitsField.{LimitsField}
 abbrev pub numberAt : Fields → ℕ → Number
 numberAt fs i = getD (fs .numbers) i zeroNumber
 
--- the number at an index as one of 32 or 64 bits
+-- the number at an index as one of 16, 32 or 64 bits
+abbrev pub u16At : Fields → ℕ → FieldU16
+u16At fs i = record { value = unsignedOf 65535 (numberAt fs i); fits = isWithin 65535 (numberAt fs i) }
+
 abbrev pub u32At : Fields → ℕ → FieldU32
 u32At fs i = record { value = unsignedOf 4294967295 (numberAt fs i); fits = isWithin 4294967295 (numberAt fs i) }
 

@@ -2,4 +2,8 @@ pub mod Groups
 pub mod Shapes
 pub mod ListFields
 pub mod Events
+pub mod Choices
+pub mod Headers
+pub mod Payloads
+pub mod Inputs
 pub mod ListClaims

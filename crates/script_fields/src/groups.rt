@@ -1,14 +1,16 @@
 // The groups of fields that stand in a line from an index on, and whether each field is in its range.
 ghost use mathlib.Core.Path.{_≡_};
-ghost use Rattle.script_fields.specs.Groups.{u32At, u64At, handleAt, isZeroHandle, optionalOf, optionalAt, pointerAt, limitsAt};
+ghost use Rattle.script_fields.specs.Groups.{u16At, u32At, u64At, handleAt, isZeroHandle, optionalOf, optionalAt, pointerAt, limitsAt};
 use composition_state::registry::CompositionLimits;
 use handles::handle::GenerationalHandle;
 use handles::handle::OptionalHandle;
 use lists::both;
 use maps::keys::CompositionPointerId;
+use script::fields::FieldU16;
 use script::fields::FieldU32;
 use script::fields::FieldU64;
 use script::fields::as_flag;
+use script::fields::as_u16;
 use script::fields::as_u32;
 use script::fields::as_u64;
 use script::fields::field;
@@ -32,6 +34,12 @@ pub struct PointerField {
 pub struct LimitsField {
     pub limits: CompositionLimits,
     pub fits: bool,
+}
+
+pub fn u16_field(fields: Fields, i: usize) -> FieldU16
+    ensures { λ r. ⌜ r ≡ u16At fields i ⌝ }
+{
+    as_u16(field(fields, i))
 }
 
 pub fn u32_field(fields: Fields, i: usize) -> FieldU32

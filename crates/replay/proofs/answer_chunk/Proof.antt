@@ -15,10 +15,10 @@ less-left : (chunk : List ℕ) (at next : ℕ) → at < length chunk → next �
 less-left chunk at next h e = omega (arith, advances chunk at h)
 
 abbrev Inv-loop : tie.InvT-loop
-Inv-loop chunk line₀ out₀ current₀ at₀ line out current at = (length line ≡ length line₀) × (length out ≡ length out₀)
+Inv-loop chunk line₀ out₀ session₀ len₀ at₀ line out session len at = (length line ≡ length line₀) × (length out ≡ length out₀)
 
 abbrev μ-loop : tie.MeasureT-loop
-μ-loop chunk line₀ out₀ current₀ at₀ line out current at = length chunk - at
+μ-loop chunk line₀ out₀ session₀ len₀ at₀ line out session len at = length chunk - at
 
 loop-holds : tie.Need-loop-holds Inv-loop μ-loop
 loop-holds c = (refl, refl)
@@ -26,8 +26,8 @@ loop-holds c = (refl, refl)
 take-line-requires : tie.Need-take-line-requires Inv-loop μ-loop
 take-line-requires c κs = search needs
 
-answer-line-requires : tie.Need-answer-line-requires Inv-loop μ-loop
-answer-line-requires c κs = search needs
+answer-requires : tie.Need-answer-requires Inv-loop μ-loop
+answer-requires c κs = search needs
 
 loop-less : tie.Need-loop-less Inv-loop μ-loop
 loop-less c = less-left _ _ _ (c .before .before .before .before .before .before .before .before .before .before .loop-test .taken) (c .before .before .before .before .before .before .before .before .take-line .ensures .1 .0)
@@ -58,7 +58,7 @@ answer-chunk-spec =
     μ-loop
     loop-holds
     take-line-requires
-    answer-line-requires
+    answer-requires
     loop-less
     loop-again
     loop-less-2

@@ -6,13 +6,13 @@ use Rattle.replay.proofs.serve.Statement.{statement}
 use Rattle.replay.proofs.serve.Tie as tie
 
 abbrev Inv-loop : tie.InvT-loop
-Inv-loop line₀ out₀ session₀ is-open₀ turns₀ line out session is-open turns = (length line ≡ length line₀) × (length out ≡ length out₀)
+Inv-loop line₀ out₀ reading₀ is-open₀ turns₀ line out reading is-open turns = (length line ≡ length line₀) × (length out ≡ length out₀)
 
 abbrev μ-loop : tie.MeasureT-loop
-μ-loop line₀ out₀ session₀ is-open₀ turns₀ line out session is-open turns = turns
+μ-loop line₀ out₀ reading₀ is-open₀ turns₀ line out reading is-open turns = turns
 
-first-session-requires : tie.Need-first-session-requires Inv-loop μ-loop
-first-session-requires c κs = search needs
+first-reading-requires : tie.Need-first-reading-requires Inv-loop μ-loop
+first-reading-requires c κs = search needs
 
 loop-holds : tie.Need-loop-holds Inv-loop μ-loop
 loop-holds c = (refl, refl)
@@ -29,8 +29,8 @@ loop-less c = search needs
 loop-again : tie.Need-loop-again Inv-loop μ-loop
 loop-again c = search needs
 
-answer-line-requires : tie.Need-answer-line-requires Inv-loop μ-loop
-answer-line-requires c κs = search needs
+answer-requires : tie.Need-answer-requires Inv-loop μ-loop
+answer-requires c κs = search needs
 
 same-length : tie.Need-same-length Inv-loop μ-loop
 same-length c = search needs
@@ -56,13 +56,13 @@ serve-spec =
     (tie.spec
     Inv-loop
     μ-loop
-    first-session-requires
+    first-reading-requires
     loop-holds
     serve-some-requires
     sub-turns
     loop-less
     loop-again
-    answer-line-requires
+    answer-requires
     same-length
     same-length-2
     returns

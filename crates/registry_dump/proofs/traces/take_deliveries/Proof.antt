@@ -1,40 +1,66 @@
--- `take_deliveries` is safe and ends: each turn leaves one entry less, and the buffer keeps its length.
-use Prim.Native.Nat.{_-_}
-use mathlib.Core.Path.{_≡_, refl}
+-- `take_deliveries` meets its contract: after i turns the numbers of the first i entries are taken.
+use Prim.Native.Nat.{_≤_, _<_, _-_}
+use mathlib.Core.Path.{sym}
+use native.Mathlib.Omega.{arith}
 use lib.ListN.{length}
 use borrow.Author.Needs.{needs}
+use Rattle.lists.specs.Tables.{entriesOf}
+use Rattle.composition_state.specs.Traces.{deliveries}
+use Rattle.answer_numbers.proofs.EachLaws.{Taken, none-taken, entry-taken, all-taken}
+use Rattle.answer_numbers.proofs.TakeLaws.{then, same-size}
+use Rattle.registry_dump.specs.Traces.{deliveryNumbers}
+use Rattle.registry_dump.proofs.TraceListLaws.{deliveries-few}
 use Rattle.registry_dump.proofs.traces.take_deliveries.Statement.{statement}
 use Rattle.registry_dump.proofs.traces.take_deliveries.Tie as tie
 
 abbrev Inv-loop : tie.InvT-loop
-Inv-loop out₀ items n next₀ i₀ out next i = length out ≡ length out₀
+Inv-loop out₀ stored n next₀ i₀ out next i = (i ≤ n) × (n ≤ 16) × Taken deliveryNumbers (entriesOf deliveries stored) (out₀, next₀) i (out, next)
 
 abbrev μ-loop : tie.MeasureT-loop
-μ-loop out₀ items n next₀ i₀ out next i = n - i
+μ-loop out₀ stored n next₀ i₀ out next i = n - i
+
+count-deliveries-requires : tie.Need-count-deliveries-requires Inv-loop μ-loop
+count-deliveries-requires c κs = search needs
+
+take-count-requires : tie.Need-take-count-requires Inv-loop μ-loop
+take-count-requires c κs = search needs
 
 loop-holds : tie.Need-loop-holds Inv-loop μ-loop
-loop-holds c = refl
+loop-holds c =
+    let a = c .before .before .before .before .before .before .args in
+    let start = c .before .before .take-count in
+    (omega arith, omega (arith, deliveries-few (a .t3) (c .before .before .before .before .before .before .good .1 .1 .0)), none-taken deliveryNumbers (entriesOf deliveries (a .t3)) (start .last .0, start .result))
 
-delivery-items-requires : tie.Need-delivery-items-requires Inv-loop μ-loop
-delivery-items-requires c κs = search needs
+mul-delivery : tie.Need-mul-delivery Inv-loop μ-loop
+mul-delivery c = omega arith
 
-take-items-requires : tie.Need-take-items-requires Inv-loop μ-loop
-take-items-requires c κs = search needs
+element-copy-out-delivery : tie.Need-element-copy-out-delivery Inv-loop μ-loop
+element-copy-out-delivery c = omega arith
+
+take-delivery-requires : tie.Need-take-delivery-requires Inv-loop μ-loop
+take-delivery-requires c κs = search needs
 
 add-i : tie.Need-add-i Inv-loop μ-loop
-add-i c = search needs
+add-i c = omega arith
 
 loop-less : tie.Need-loop-less Inv-loop μ-loop
-loop-less c = search needs
+loop-less c = omega arith
 
 loop-again : tie.Need-loop-again Inv-loop μ-loop
-loop-again c = search needs
-
-same-length : tie.Need-same-length Inv-loop μ-loop
-same-length c = search needs
+loop-again c =
+    let a = c .before .before .before .before .before .before .before .before .before .before .before .before .before .args in
+    let l = c .before .before .before .before .before .before .loop in
+    let within : l .i < length (entriesOf deliveries (a .t3)) = omega arith in
+    (omega arith, omega arith, entry-taken deliveries deliveryNumbers (a .t3) _ (l .i) _ within (l .inv .2) (c .before .before .take-delivery .ensures))
 
 returns : tie.Need-returns Inv-loop μ-loop
-returns c = search needs
+returns c =
+    let a = c .before .before .before .before .before .before .before .before .args in
+    let l = c .before .loop in
+    rw (sym (c .before .before .before .before .before .before .count-deliveries .ensures)) (then _ _ _ (c .before .before .before .before .take-count .ensures) (all-taken deliveryNumbers (entriesOf deliveries (a .t3)) _ (l .i) (omega arith) (l .inv .2)))
+
+same-length : tie.Need-same-length Inv-loop μ-loop
+same-length c = same-size _ _ (returns c)
 
 pub take-deliveries-spec : {M : Type 1} → statement M
 take-deliveries-spec =
@@ -42,9 +68,12 @@ take-deliveries-spec =
     (tie.spec
     Inv-loop
     μ-loop
+    count-deliveries-requires
+    take-count-requires
     loop-holds
-    delivery-items-requires
-    take-items-requires
+    mul-delivery
+    element-copy-out-delivery
+    take-delivery-requires
     add-i
     loop-less
     loop-again

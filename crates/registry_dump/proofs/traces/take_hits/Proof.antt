@@ -1,40 +1,66 @@
--- `take_hits` is safe and ends: each turn leaves one entry less, and the buffer keeps its length.
-use Prim.Native.Nat.{_-_}
-use mathlib.Core.Path.{_≡_, refl}
+-- `take_hits` meets its contract: after i turns the numbers of the first i entries are taken.
+use Prim.Native.Nat.{_≤_, _<_, _-_}
+use mathlib.Core.Path.{sym}
+use native.Mathlib.Omega.{arith}
 use lib.ListN.{length}
 use borrow.Author.Needs.{needs}
+use Rattle.lists.specs.Tables.{entriesOf}
+use Rattle.composition_state.specs.Traces.{hits}
+use Rattle.answer_numbers.specs.Groups.{handleNumbers}
+use Rattle.answer_numbers.proofs.EachLaws.{Taken, none-taken, entry-taken, all-taken}
+use Rattle.answer_numbers.proofs.TakeLaws.{then, same-size}
+use Rattle.registry_dump.proofs.TraceListLaws.{hits-few}
 use Rattle.registry_dump.proofs.traces.take_hits.Statement.{statement}
 use Rattle.registry_dump.proofs.traces.take_hits.Tie as tie
 
 abbrev Inv-loop : tie.InvT-loop
-Inv-loop out₀ items n next₀ i₀ out next i = length out ≡ length out₀
+Inv-loop out₀ stored n next₀ i₀ out next i = (i ≤ n) × (n ≤ 16) × Taken handleNumbers (entriesOf hits stored) (out₀, next₀) i (out, next)
 
 abbrev μ-loop : tie.MeasureT-loop
-μ-loop out₀ items n next₀ i₀ out next i = n - i
+μ-loop out₀ stored n next₀ i₀ out next i = n - i
+
+count-hits-requires : tie.Need-count-hits-requires Inv-loop μ-loop
+count-hits-requires c κs = search needs
+
+take-count-requires : tie.Need-take-count-requires Inv-loop μ-loop
+take-count-requires c κs = search needs
 
 loop-holds : tie.Need-loop-holds Inv-loop μ-loop
-loop-holds c = refl
+loop-holds c =
+    let a = c .before .before .before .before .before .before .args in
+    let start = c .before .before .take-count in
+    (omega arith, omega (arith, hits-few (a .t3) (c .before .before .before .before .before .before .good .1 .1 .0)), none-taken handleNumbers (entriesOf hits (a .t3)) (start .last .0, start .result))
 
-hit-items-requires : tie.Need-hit-items-requires Inv-loop μ-loop
-hit-items-requires c κs = search needs
+mul-hit : tie.Need-mul-hit Inv-loop μ-loop
+mul-hit c = omega arith
 
-take-items-requires : tie.Need-take-items-requires Inv-loop μ-loop
-take-items-requires c κs = search needs
+element-copy-out-hit : tie.Need-element-copy-out-hit Inv-loop μ-loop
+element-copy-out-hit c = omega arith
+
+take-handle-requires : tie.Need-take-handle-requires Inv-loop μ-loop
+take-handle-requires c κs = search needs
 
 add-i : tie.Need-add-i Inv-loop μ-loop
-add-i c = search needs
+add-i c = omega arith
 
 loop-less : tie.Need-loop-less Inv-loop μ-loop
-loop-less c = search needs
+loop-less c = omega arith
 
 loop-again : tie.Need-loop-again Inv-loop μ-loop
-loop-again c = search needs
-
-same-length : tie.Need-same-length Inv-loop μ-loop
-same-length c = search needs
+loop-again c =
+    let a = c .before .before .before .before .before .before .before .before .before .before .before .before .before .args in
+    let l = c .before .before .before .before .before .before .loop in
+    let within : l .i < length (entriesOf hits (a .t3)) = omega arith in
+    (omega arith, omega arith, entry-taken hits handleNumbers (a .t3) _ (l .i) _ within (l .inv .2) (c .before .before .take-handle .ensures))
 
 returns : tie.Need-returns Inv-loop μ-loop
-returns c = search needs
+returns c =
+    let a = c .before .before .before .before .before .before .before .before .args in
+    let l = c .before .loop in
+    rw (sym (c .before .before .before .before .before .before .count-hits .ensures)) (then _ _ _ (c .before .before .before .before .take-count .ensures) (all-taken handleNumbers (entriesOf hits (a .t3)) _ (l .i) (omega arith) (l .inv .2)))
+
+same-length : tie.Need-same-length Inv-loop μ-loop
+same-length c = same-size _ _ (returns c)
 
 pub take-hits-spec : {M : Type 1} → statement M
 take-hits-spec =
@@ -42,9 +68,12 @@ take-hits-spec =
     (tie.spec
     Inv-loop
     μ-loop
+    count-hits-requires
+    take-count-requires
     loop-holds
-    hit-items-requires
-    take-items-requires
+    mul-hit
+    element-copy-out-hit
+    take-handle-requires
     add-i
     loop-less
     loop-again

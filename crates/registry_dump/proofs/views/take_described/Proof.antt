@@ -1,56 +1,23 @@
--- `take_described` is safe and ends: each turn leaves one entry less, and the buffer keeps its length.
-use Prim.Native.Nat.{_-_}
-use mathlib.Core.Path.{_≡_, refl}
-use lib.ListN.{length}
+-- `take_described` meets its contract: its parts are taken one after the other.
 use borrow.Author.Needs.{needs}
+use Rattle.answer_numbers.proofs.TakeLaws.{then, same-size}
 use Rattle.registry_dump.proofs.views.take_described.Statement.{statement}
 use Rattle.registry_dump.proofs.views.take_described.Tie as tie
 
-abbrev Inv-loop : tie.InvT-loop
-Inv-loop out₀ surfaces items n next₀ i₀ out next i = length out ≡ length out₀
+take-handle-requires : tie.Need-take-handle-requires
+take-handle-requires c κs = search needs
 
-abbrev μ-loop : tie.MeasureT-loop
-μ-loop out₀ surfaces items n next₀ i₀ out next i = n - i
+take-descriptor-requires : tie.Need-take-descriptor-requires
+take-descriptor-requires c κs = search needs
 
-count-requires : tie.Need-count-requires Inv-loop μ-loop
-count-requires c κs = search needs
+returns : tie.Need-returns
+returns c =
+    then _ _ _ (c .before .before .before .before .before .before .take-handle .ensures)
+    (c .before .before .take-descriptor .ensures)
 
-loop-holds : tie.Need-loop-holds Inv-loop μ-loop
-loop-holds c = refl
-
-described-items-requires : tie.Need-described-items-requires Inv-loop μ-loop
-described-items-requires c κs = search needs
-
-take-items-requires : tie.Need-take-items-requires Inv-loop μ-loop
-take-items-requires c κs = search needs
-
-add-i : tie.Need-add-i Inv-loop μ-loop
-add-i c = search needs
-
-loop-less : tie.Need-loop-less Inv-loop μ-loop
-loop-less c = search needs
-
-loop-again : tie.Need-loop-again Inv-loop μ-loop
-loop-again c = search needs
-
-same-length : tie.Need-same-length Inv-loop μ-loop
-same-length c = search needs
-
-returns : tie.Need-returns Inv-loop μ-loop
-returns c = search needs
+same-length : tie.Need-same-length
+same-length c = same-size _ _ (returns c)
 
 pub take-described-spec : {M : Type 1} → statement M
 take-described-spec =
-    tie.close
-    (tie.spec
-    Inv-loop
-    μ-loop
-    count-requires
-    loop-holds
-    described-items-requires
-    take-items-requires
-    add-i
-    loop-less
-    loop-again
-    same-length
-    returns)
+    tie.close (tie.spec take-handle-requires take-descriptor-requires same-length returns)

@@ -6,8 +6,7 @@ use Rattle.script_fields.proofs.event_fields.event_of.Tie as tie
 
 returns : tie.Need-returns
 unfolding eventOf
-returns c =
-    rw (eq-eqb _ _ (c .if1 .taken))
+returns c = rw (eq-eqb _ _ (c .if1 .taken))
 
 returns-2 : tie.Need-returns-2
 unfolding eventOf

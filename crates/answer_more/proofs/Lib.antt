@@ -1,0 +1,2 @@
+pub mod ReportListLaws
+pub mod PlaceLaws

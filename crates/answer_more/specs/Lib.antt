@@ -1,0 +1,4 @@
+pub mod Place
+pub mod Closing
+pub mod Shown
+pub mod More

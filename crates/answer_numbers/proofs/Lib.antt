@@ -1,0 +1,5 @@
+pub mod RaiseLaws
+pub mod TakeLaws
+pub mod EachLaws
+pub mod HandleListLaws
+pub mod DigestSinkLaws

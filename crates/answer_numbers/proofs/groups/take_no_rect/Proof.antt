@@ -1,0 +1,43 @@
+-- `take_no_rect` meets its contract: its parts are taken one after the other.
+use borrow.Author.Needs.{needs}
+use Rattle.answer_numbers.proofs.TakeLaws.{then, same-size}
+use Rattle.answer_numbers.proofs.groups.take_no_rect.Statement.{statement}
+use Rattle.answer_numbers.proofs.groups.take_no_rect.Tie as tie
+
+take-plain-requires : tie.Need-take-plain-requires
+take-plain-requires c κs = search needs
+
+take-plain-requires-2 : tie.Need-take-plain-requires-2
+take-plain-requires-2 c κs = search needs
+
+take-plain-requires-3 : tie.Need-take-plain-requires-3
+take-plain-requires-3 c κs = search needs
+
+take-plain-requires-4 : tie.Need-take-plain-requires-4
+take-plain-requires-4 c κs = search needs
+
+take-plain-requires-5 : tie.Need-take-plain-requires-5
+take-plain-requires-5 c κs = search needs
+
+returns : tie.Need-returns
+returns c =
+    then _ _ _ (c .before .before .before .before .before .before .before .before .before .before .before .before .before .before .before .before .before .before .take-plain .ensures)
+    (then _ _ _ (c .before .before .before .before .before .before .before .before .before .before .before .before .before .before .take-plain2 .ensures)
+    (then _ _ _ (c .before .before .before .before .before .before .before .before .before .before .take-plain3 .ensures)
+    (then _ _ _ (c .before .before .before .before .before .before .take-plain4 .ensures)
+    (c .before .before .take-plain5 .ensures))))
+
+same-length : tie.Need-same-length
+same-length c = same-size _ _ (returns c)
+
+pub take-no-rect-spec : {M : Type 1} → statement M
+take-no-rect-spec =
+    tie.close
+    (tie.spec
+    take-plain-requires
+    take-plain-requires-2
+    take-plain-requires-3
+    take-plain-requires-4
+    take-plain-requires-5
+    same-length
+    returns)

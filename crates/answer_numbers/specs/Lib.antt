@@ -1,0 +1,4 @@
+pub mod Numbers
+pub mod Groups
+pub mod Lists
+pub mod Claims

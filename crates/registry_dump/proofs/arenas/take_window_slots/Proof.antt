@@ -1,0 +1,77 @@
+-- `take_window_slots` meets its contract: after i turns the numbers of the first i slots are taken.
+use Prim.Native.Nat.{_≤_, _-_}
+use mathlib.Core.Path.{sym}
+use mathlib.Core.List.{[]}
+use native.Mathlib.Omega.{arith}
+use lib.ListN.{getD}
+use borrow.Author.Needs.{needs}
+use Rattle.handles.specs.Slots.{noSlot}
+use Rattle.answer_numbers.specs.Numbers.{indices}
+use Rattle.answer_numbers.proofs.EachLaws.{Taken, none-taken, index-taken, indices-taken, indices-long}
+use Rattle.answer_numbers.proofs.TakeLaws.{then, same-size}
+use Rattle.registry_dump.specs.Arenas.{slotNumbers}
+use Rattle.registry_dump.proofs.ArenaLaws.{slot-bare}
+use Rattle.registry_dump.proofs.arenas.take_window_slots.Statement.{statement}
+use Rattle.registry_dump.proofs.arenas.take_window_slots.Tie as tie
+
+abbrev Inv-loop : tie.InvT-loop
+Inv-loop out₀ slots n next₀ i₀ out next i = (i ≤ n) × Taken (λ j. slotNumbers [] (getD slots j noSlot)) (indices n) (out₀, next₀) i (out, next)
+
+abbrev μ-loop : tie.MeasureT-loop
+μ-loop out₀ slots n next₀ i₀ out next i = n - i
+
+used-places-requires : tie.Need-used-places-requires Inv-loop μ-loop
+used-places-requires c κs = search needs
+
+take-count-requires : tie.Need-take-count-requires Inv-loop μ-loop
+take-count-requires c κs = search needs
+
+loop-holds : tie.Need-loop-holds Inv-loop μ-loop
+loop-holds c =
+    let slots = c .before .before .before .before .before .before .before .args .windows .slots in
+    (omega arith, none-taken (λ j. slotNumbers [] (getD slots j noSlot)) (indices (c .before .before .before .before .used-places .result)) (c .before .before .take-count .last .0, c .before .before .take-count .result))
+
+slot-at-requires : tie.Need-slot-at-requires Inv-loop μ-loop
+slot-at-requires c κs = search needs
+
+take-slot-requires : tie.Need-take-slot-requires Inv-loop μ-loop
+take-slot-requires c κs = search needs
+
+add-i : tie.Need-add-i Inv-loop μ-loop
+add-i c = omega arith
+
+loop-less : tie.Need-loop-less Inv-loop μ-loop
+loop-less c = omega arith
+
+loop-again : tie.Need-loop-again Inv-loop μ-loop
+loop-again c =
+    let slots = c .before .before .before .before .before .before .before .before .before .before .before .before .before .before .args .windows .slots in
+    let l = c .before .before .before .before .before .before .loop in
+    let slot = slot-bare (getD slots (l .i) noSlot) (l .out, l .next) (rw (c .before .before .before .slot-at .ensures) at (c .before .before .take-slot .ensures)) in
+    (omega arith, index-taken (λ j. slotNumbers [] (getD slots j noSlot)) (c .before .before .before .before .before .before .before .before .before .before .before .used-places .result) _ (l .i) (c .before .before .before .before .before .loop-test .taken) (l .inv .1) slot)
+
+returns : tie.Need-returns Inv-loop μ-loop
+returns c =
+    let slots = c .before .before .before .before .before .before .before .before .before .args .windows .slots in
+    let l = c .before .loop in
+    rw (indices-long, sym (c .before .before .before .before .before .before .used-places .ensures)) (then _ _ _ (c .before .before .before .before .take-count .ensures) (indices-taken (λ j. slotNumbers [] (getD slots j noSlot)) (c .before .before .before .before .before .before .used-places .result) _ (l .i) (omega arith) (l .inv .1)))
+
+same-length : tie.Need-same-length Inv-loop μ-loop
+same-length c = same-size _ _ (returns c)
+
+pub take-window-slots-spec : {M : Type 1} → statement M
+take-window-slots-spec =
+    tie.close
+    (tie.spec
+    Inv-loop
+    μ-loop
+    used-places-requires
+    take-count-requires
+    loop-holds
+    slot-at-requires
+    take-slot-requires
+    add-i
+    loop-less
+    loop-again
+    same-length
+    returns)

@@ -1,0 +1,3 @@
+pub mod Presses
+pub mod Router
+pub mod Claims

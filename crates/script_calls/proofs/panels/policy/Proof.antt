@@ -1,0 +1,47 @@
+-- `policy` meets its contract: it is made of the fields that it reads.
+use borrow.Author.Needs.{needs}
+use Rattle.script_calls.specs.Panels.{policyIn}
+use Rattle.script_calls.proofs.panels.policy.Statement.{statement}
+use Rattle.script_calls.proofs.panels.policy.Tie as tie
+
+handle-field-requires : tie.Need-handle-field-requires
+handle-field-requires c κs = search needs
+
+policy-field-requires : tie.Need-policy-field-requires
+policy-field-requires c κs = search needs
+
+u64-field-requires : tie.Need-u64-field-requires
+u64-field-requires c κs = search needs
+
+both-requires : tie.Need-both-requires
+both-requires c κs = search needs
+
+both-requires-2 : tie.Need-both-requires-2
+both-requires-2 c κs = search needs
+
+both-requires-3 : tie.Need-both-requires-3
+both-requires-3 c κs = search needs
+
+returns : tie.Need-returns
+unfolding policyIn
+returns c =
+    rw (
+      c .both3 .ensures,
+      c .before .before .both2 .ensures,
+      c .before .before .before .both .ensures,
+      c .before .before .before .before .before .u64-field .ensures,
+      c .before .before .before .before .before .before .policy-field .ensures,
+      c .before .before .before .before .before .before .before .handle-field .ensures,
+    )
+
+pub policy-spec : {M : Type 1} → statement M
+policy-spec =
+    tie.close
+    (tie.spec
+    handle-field-requires
+    policy-field-requires
+    u64-field-requires
+    both-requires
+    both-requires-2
+    both-requires-3
+    returns)
