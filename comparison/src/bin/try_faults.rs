@@ -1,0 +1,66 @@
+//! Puts each fault into a copy of the Rust and tells when the generated scripts notice it:
+//! try_faults [NAME ..]. Ends with 1 if one is not noticed.
+
+use std::io;
+use std::path::{Path, PathBuf};
+use std::process::{exit, Command};
+
+use comparison::compare::Plan;
+use comparison::faults::{all, notice, Fault};
+use comparison::generate::{all_verbs, Profile};
+
+/// A fault that this many scripts do not notice is not noticed.
+const MOST_SCRIPTS: u64 = 3_000;
+const CALLS: usize = 200;
+
+fn main() -> io::Result<()> {
+    let package = Path::new(env!("CARGO_MANIFEST_DIR"));
+    let names = std::env::args().skip(1).collect::<Vec<_>>();
+    let mut faults = all(&package.join("faults"))?;
+    faults.retain(|fault| names.is_empty() || names.contains(&fault.name));
+    let plan = Plan {
+        count: MOST_SCRIPTS,
+        calls: CALLS,
+        seed: 1,
+        profiles: Profile::ALL.to_vec(),
+        verbs: all_verbs(),
+    };
+    let width = faults.iter().map(|fault| fault.name.len()).max().unwrap_or(0);
+    println!("{:width$} scripts   calls verb", "fault");
+    let mut unnoticed = 0;
+    for fault in &faults {
+        let driver = faulty_driver(package, fault)?;
+        let name = &fault.name;
+        match notice(&plan, &driver.to_string_lossy()) {
+            Some(found) => {
+                let stop = if found.stopped { ", where it stopped" } else { "" };
+                let (scripts, calls, verb) = (found.scripts, found.calls, found.verb);
+                println!("{name:width$} {scripts:7} {calls:7} {verb} ({}{stop})", found.profile);
+            }
+            None => {
+                unnoticed += 1;
+                println!("{name:width$} not noticed by {MOST_SCRIPTS} scripts: {}", fault.what);
+            }
+        }
+    }
+    println!("{} faults, {} noticed", faults.len(), faults.len() - unnoticed);
+    exit(i32::from(unnoticed > 0 || faults.is_empty()));
+}
+
+/// Builds the driver from a copy of the Rust with the fault.
+fn faulty_driver(package: &Path, fault: &Fault) -> io::Result<PathBuf> {
+    let scratch = package.join("target/faults");
+    let copy = scratch.join("source");
+    fault.write_copy(Path::new(comparison::SOURCES), &copy)?;
+    let built = Command::new("cargo")
+        .args(["build", "--quiet", "-j1", "--profile", "fault", "--bin", "driver"])
+        .env("VOLANG_SRC", &copy)
+        .env("CARGO_TARGET_DIR", scratch.join("build"))
+        .env("RUSTFLAGS", "-Awarnings")
+        .current_dir(package)
+        .status()?;
+    if !built.success() {
+        return Err(io::Error::other(format!("{} does not compile", fault.name)));
+    }
+    Ok(scratch.join("build/fault/driver"))
+}
