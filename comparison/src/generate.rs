@@ -1,6 +1,7 @@
 //! Writes scripts. A model of what exists, the driver's own library run beside, keeps most calls valid.
 
 mod events;
+mod fill;
 mod geometry;
 mod mutate;
 mod pick;
@@ -43,7 +44,7 @@ impl Profile {
     }
 }
 
-/// What a script of the profile `limits` fills, or whose generations one of `ends` wears out.
+/// What a script of the profile `limits` fills, or whose generations one of `ends` wears out. `Small` has small limits.
 #[derive(Clone, Copy, Debug, Eq, PartialEq)]
 enum Mode {
     Plain,
@@ -80,8 +81,8 @@ const WEIGHTS: [(&str, [u64; 5]); 41] = [
     ("release_pointer", [3, 4, 2, 1, 3]),
     ("release_pointer_for", [4, 5, 2, 1, 3]),
     ("release_device_pointer_captures", [2, 2, 1, 1, 2]),
-    ("begin_ime", [4, 4, 1, 0, 4]),
-    ("end_ime", [3, 3, 1, 0, 2]),
+    ("begin_ime", [8, 8, 1, 0, 10]),
+    ("end_ime", [3, 3, 1, 0, 4]),
     ("suspend_view_input", [2, 2, 1, 1, 2]),
     ("arbitrate", [14, 14, 10, 4, 10]),
     ("close_surface", [7, 7, 8, 4, 22]),
@@ -118,6 +119,8 @@ struct Maker {
     allowed: Vec<&'static str>,
     script: Vec<u8>,
     calls: usize,
+    /// About so many calls the script is to have.
+    most: usize,
     /// The line being made is to have a wrong argument.
     faulty: bool,
     fault: Fault,
@@ -150,6 +153,7 @@ pub fn script(seed: u64, calls: usize, profile: Profile, verbs: &[&'static str])
     let mode = match profile {
         Profile::Limits => rng.pick(&modes),
         Profile::Ends => rng.pick(&old),
+        Profile::Normal if rng.percent(15) => Mode::Small,
         _ => Mode::Plain,
     };
     let mut maker = Maker {
@@ -160,11 +164,15 @@ pub fn script(seed: u64, calls: usize, profile: Profile, verbs: &[&'static str])
         allowed: verbs.to_vec(),
         script: Vec::new(),
         calls: 0,
+        most: calls,
         faulty: false,
         fault: Fault::Nowhere,
     };
     maker.start();
     maker.furnish();
+    if profile == Profile::Limits && maker.rng.percent(50) {
+        maker.fill();
+    }
     while maker.calls < calls {
         maker.step();
     }
@@ -353,7 +361,7 @@ impl Maker {
         };
         match (self.mode, verb) {
             (Mode::OldWindows | Mode::OldViews | Mode::OldPanels, _) => {
-                1 + 2 * u64::from(often.contains(&verb))
+                1 + 2 * u64::from(often.contains(&verb) || verb == "shutdown")
             }
             _ if often.contains(&verb) => 12,
             (Mode::Starts, _) => 1,

@@ -117,7 +117,8 @@ pub fn of_answer(session: &Session, call: &Call, answer: &Answer, found: &mut Ve
         Call::ReleaseSurface(_) => releases("release_surface", answer, found),
         Call::ReleaseAll => {
             releases("release_all", answer, found);
-            let panels = answer.releases.iter().map(panel).collect::<std::collections::BTreeSet<_>>();
+            let panels =
+                answer.releases.iter().map(panel).collect::<std::collections::BTreeSet<_>>();
             push_if(found, panels.len() > 1, ("release_all", "several panels"));
             push_if(found, answer.releases.len() == BINDINGS as usize, ("release_all", "full"));
         }
