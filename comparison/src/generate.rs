@@ -75,7 +75,7 @@ const WEIGHTS: [(&str, [u64; 5]); 41] = [
     ("update_surface_geometry", [4, 4, 1, 14, 2]),
     ("update_surface_input_policy", [5, 5, 2, 2, 3]),
     ("register_surface_system_shortcut_set", [8, 8, 12, 1, 6]),
-    ("set_focus", [9, 8, 3, 2, 8]),
+    ("set_focus", [14, 12, 4, 3, 10]),
     ("capture_pointer", [5, 5, 5, 1, 5]),
     ("capture_pointer_for", [8, 8, 16, 3, 8]),
     ("release_pointer", [3, 4, 2, 1, 3]),

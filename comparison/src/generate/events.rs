@@ -51,7 +51,8 @@ impl Maker {
 
     pub fn route(&mut self) -> Option<String> {
         let (device, payload) = self.payload();
-        let view = self.view()?;
+        let by_focus = payload.starts_with(['2', '4', '5', '6']);
+        let view = if by_focus { self.focused_view()? } else { self.view()? };
         let registry = &self.session.registry;
         let window = registry.view_window(view).unwrap_or(GenerationalHandle::INVALID);
         let metrics = registry.view_metrics(view).map_or(0, |metrics| metrics.revision);
@@ -81,6 +82,18 @@ impl Maker {
             h(window),
             h(view)
         ))
+    }
+
+    /// A view; often one in which a panel has the focus.
+    fn focused_view(&mut self) -> Option<GenerationalHandle> {
+        let registry = &self.session.registry;
+        let has_focus = |view: &GenerationalHandle| {
+            registry.view_input_state(*view).is_ok_and(|state| state.focused.is_some())
+        };
+        let live = access::views(registry);
+        let focused = live.iter().copied().filter(has_focus).collect::<Vec<_>>();
+        let often = self.rng.percent(70) && !focused.is_empty();
+        self.handle_of(if often { &focused } else { &live }, &live)
     }
 
     /// A line of `route` with nothing wrong in its header.
