@@ -15,7 +15,9 @@ pub mod generate;
 mod handle;
 pub mod limits;
 mod link;
+pub mod no_calls;
 pub mod program;
+pub mod record;
 pub mod script;
 pub mod shrink;
 
