@@ -16,6 +16,7 @@ mod handle;
 pub mod limits;
 mod link;
 pub mod no_calls;
+pub mod odd;
 pub mod program;
 pub mod record;
 pub mod script;

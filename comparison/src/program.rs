@@ -7,7 +7,7 @@ use std::thread;
 use std::time::Duration;
 
 /// A run that takes longer is ended; the lines it has written count.
-const LONGEST_RUN: Duration = Duration::from_secs(120);
+const LONGEST_RUN: Duration = Duration::from_secs(600);
 
 /// One run of the program on a script: all that it writes, and what else there is to say about the run.
 pub fn run(program: &str, script: &[u8]) -> (Vec<u8>, Option<String>) {

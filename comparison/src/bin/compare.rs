@@ -43,11 +43,15 @@ fn read(arguments: &[String]) -> Option<(String, Plan)> {
         }
         [] => (Profile::ALL.to_vec(), rest),
     };
-    let verbs = match rest {
+    let mut verbs = match rest {
         [] => all_verbs(),
         [names] => verbs_named(names)?,
         _ => return None,
     };
+    // The states are always compared too.
+    if !verbs.contains(&"digest") {
+        verbs.push("digest");
+    }
     let plan =
         Plan { count: count.parse().ok()?, calls: calls.parse().ok()?, seed, profiles, verbs };
     Some((program.clone(), plan))
