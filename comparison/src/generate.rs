@@ -292,7 +292,7 @@ impl Maker {
         }
         match (verb, self.emit(line.as_bytes())) {
             ("close_surface", Some(0)) => self.release_after_close(&line),
-            ("close_surface", Some(22)) => self.close_emptied_view(),
+            ("close_surface", Some(22)) => self.close_emptied_view(&line),
             _ => {}
         }
         // Without digests only for a call or two.
@@ -323,8 +323,15 @@ impl Maker {
         }
     }
 
-    /// After a close refused 22 the panel's view may be closed while the panel lives on.
-    fn close_emptied_view(&mut self) {
+    /// After a close refused 22 the panel's view may be closed while the panel lives on, at times with a Window
+    /// registration.
+    fn close_emptied_view(&mut self, close: &str) {
+        let panel = close.strip_prefix("close_surface ").unwrap_or("0 1");
+        let register = "register_surface_system_shortcut_set";
+        if self.may(register) && self.rng.percent(40) {
+            let revision = self.session.registry.revision();
+            self.emit(format!("{register} {panel} {revision} 1 1 1 0").as_bytes());
+        }
         if self.may("close_view") && self.rng.percent(50) {
             if let Some(line) = self.line("close_view") {
                 self.emit(line.as_bytes());

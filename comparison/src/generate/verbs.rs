@@ -232,10 +232,15 @@ impl Maker {
         }
         let mut line = format!("{} {revision} {count}", h(panel));
         let zero = if self.wrong() { self.rng.below(count + 1) } else { count };
+        // Registrations that are alike, so that the view, the z order and the handle decide between them.
+        let alike = self.rng.percent(35).then(|| 1 + self.rng.below(2));
         for place in 0..count {
             let priority = self.rng.pick(&[0, 0, 0, 0, 0, 1, -1, i16::MIN, i16::MAX]);
             let mask = if place == zero { 0 } else { self.some_mask() };
-            line += &format!(" {mask} {} {priority}", self.rng.below(3));
+            line += &match alike {
+                Some(scope) => format!(" {} {scope} 0", mask.min(1)),
+                None => format!(" {mask} {} {priority}", self.rng.below(3)),
+            };
         }
         Some(line)
     }
