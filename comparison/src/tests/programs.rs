@@ -2,6 +2,7 @@
 
 use crate::calls::{lines, run_script};
 use crate::compare::{compare, Plan};
+use crate::coverage::Coverage;
 use crate::generate::{all_verbs, script, Profile};
 use crate::odd::converse;
 
@@ -43,6 +44,22 @@ fn normal_scripts_keep_the_premises() {
                 assert!(next == "release_all" || next == format!("release_surface {panel}"));
             }
         }
+    }
+}
+
+/// Every profile has every verb, payload and event accepted; only the premises leave out the shutdown.
+#[test]
+fn every_profile_has_every_verb() {
+    for profile in Profile::ALL {
+        let mut coverage = Coverage::default();
+        for seed in 0..300 {
+            coverage.add(&script(seed, 200, profile, &all_verbs()));
+        }
+        let mut missing = coverage.missing_pairs();
+        missing.retain(|(_, number)| *number == 0);
+        let without = if profile == Profile::Normal { vec!["shutdown"] } else { vec![] };
+        let missing = missing.iter().map(|(verb, _)| verb.as_str()).collect::<Vec<_>>();
+        assert_eq!(missing, without, "{}", profile.name());
     }
 }
 
