@@ -2,6 +2,7 @@
 
 mod events;
 mod fill;
+mod follow;
 mod geometry;
 mod mutate;
 mod pick;
@@ -290,53 +291,8 @@ impl Maker {
             self.emit(&line);
             return;
         }
-        match (verb, self.emit(line.as_bytes())) {
-            ("close_surface", Some(0)) => self.release_after_close(&line),
-            ("close_surface", Some(22)) => self.close_emptied_view(&line),
-            _ => {}
-        }
-        // Without digests only for a call or two.
-        if line.starts_with("digest 0") {
-            if self.may("counts") {
-                self.emit(b"counts");
-            }
-            self.emit(b"digest 1");
-        }
-    }
-
-    /// An accepted close is followed at once by the panel's release or the release of all.
-    fn release_after_close(&mut self, close: &str) {
-        let often = match self.profile {
-            Profile::Normal => 100,
-            Profile::Wild => 50,
-            _ => 70,
-        };
-        if !self.rng.percent(often) {
-            return;
-        }
-        let panel = close.strip_prefix("close_surface ").unwrap_or("0 1");
-        let all = self.may("release_all") && (self.rng.percent(12) || !self.may("release_surface"));
-        if all {
-            self.emit(b"release_all");
-        } else if self.may("release_surface") {
-            self.emit(format!("release_surface {panel}").as_bytes());
-        }
-    }
-
-    /// After a close refused 22 the panel's view may be closed while the panel lives on, at times with a Window
-    /// registration.
-    fn close_emptied_view(&mut self, close: &str) {
-        let panel = close.strip_prefix("close_surface ").unwrap_or("0 1");
-        let register = "register_surface_system_shortcut_set";
-        if self.may(register) && self.rng.percent(40) {
-            let revision = self.session.registry.revision();
-            self.emit(format!("{register} {panel} {revision} 1 1 1 0").as_bytes());
-        }
-        if self.may("close_view") && self.rng.percent(50) {
-            if let Some(line) = self.line("close_view") {
-                self.emit(line.as_bytes());
-            }
-        }
+        let answer = self.emit(line.as_bytes());
+        self.follow(verb, &line, answer);
     }
 
     fn weights(&self) -> Vec<u64> {
