@@ -44,22 +44,22 @@ impl Fault {
     pub fn applied(&self, source: &str) -> Option<String> {
         (source.matches(&self.from).count() == 1).then(|| source.replacen(&self.from, &self.to, 1))
     }
+}
 
-    /// Writes a copy of the Rust sources with the fault into a folder.
-    pub fn write_copy(&self, sources: &Path, copy: &Path) -> io::Result<()> {
-        fs::create_dir_all(copy.join(FOLDER))?;
-        for file in FILES {
-            let mut text = fs::read_to_string(sources.join(FOLDER).join(file))?;
-            if file == self.file {
-                text = self.applied(&text).ok_or_else(|| {
-                    let message = format!("{}: its text does not stand once in {file}", self.name);
-                    io::Error::other(message)
-                })?;
-            }
-            fs::write(copy.join(FOLDER).join(file), text)?;
+/// Writes a copy of the Rust sources into a folder, with the fault if there is one.
+pub fn write_copy(sources: &Path, copy: &Path, fault: Option<&Fault>) -> io::Result<()> {
+    fs::create_dir_all(copy.join(FOLDER))?;
+    for file in FILES {
+        let mut text = fs::read_to_string(sources.join(FOLDER).join(file))?;
+        if let Some(fault) = fault.filter(|fault| fault.file == file) {
+            text = fault.applied(&text).ok_or_else(|| {
+                let message = format!("{}: its text does not stand once in {file}", fault.name);
+                io::Error::other(message)
+            })?;
         }
-        Ok(())
+        fs::write(copy.join(FOLDER).join(file), text)?;
     }
+    Ok(())
 }
 
 /// All faults of a folder, by name.

@@ -6,30 +6,37 @@ use std::path::{Path, PathBuf};
 use std::process::{exit, Command};
 
 use comparison::compare::Plan;
-use comparison::faults::{all, notice, Fault};
+use comparison::faults::{all, notice, write_copy, Fault};
 use comparison::generate::{all_verbs, Profile};
 
 /// A fault that this many scripts do not notice is not noticed.
 const MOST_SCRIPTS: u64 = 3_000;
 const CALLS: usize = 200;
+/// So many scripts show no difference on a copy without a fault.
+const WITHOUT_FAULT: u64 = 300;
 
 fn main() -> io::Result<()> {
     let package = Path::new(env!("CARGO_MANIFEST_DIR"));
     let names = std::env::args().skip(1).collect::<Vec<_>>();
     let mut faults = all(&package.join("faults"))?;
     faults.retain(|fault| names.is_empty() || names.contains(&fault.name));
-    let plan = Plan {
-        count: MOST_SCRIPTS,
+    let mut plan = Plan {
+        count: WITHOUT_FAULT,
         calls: CALLS,
         seed: 1,
         profiles: Profile::ALL.to_vec(),
         verbs: all_verbs(),
     };
+    if notice(&plan, &built_driver(package, None)?.to_string_lossy()).is_some() {
+        println!("a copy without a fault differs");
+        exit(1);
+    }
+    plan.count = MOST_SCRIPTS;
     let width = faults.iter().map(|fault| fault.name.len()).max().unwrap_or(0);
     println!("{:width$} scripts   calls verb", "fault");
     let mut unnoticed = 0;
     for fault in &faults {
-        let driver = faulty_driver(package, fault)?;
+        let driver = built_driver(package, Some(fault))?;
         let name = &fault.name;
         match notice(&plan, &driver.to_string_lossy()) {
             Some(found) => {
@@ -47,11 +54,13 @@ fn main() -> io::Result<()> {
     exit(i32::from(unnoticed > 0 || faults.is_empty()));
 }
 
-/// Builds the driver from a copy of the Rust with the fault.
-fn faulty_driver(package: &Path, fault: &Fault) -> io::Result<PathBuf> {
+/// Builds the driver from a copy of the Rust, with the fault if there is one.
+fn built_driver(package: &Path, fault: Option<&Fault>) -> io::Result<PathBuf> {
     let scratch = package.join("target/faults");
-    let copy = scratch.join("source");
-    fault.write_copy(Path::new(comparison::SOURCES), &copy)?;
+    // A folder of its own for each, so that no build is taken for that of another fault.
+    let name = fault.map_or("unchanged", |fault| &fault.name);
+    let copy = scratch.join("source").join(name);
+    write_copy(Path::new(comparison::SOURCES), &copy, fault)?;
     let built = Command::new("cargo")
         .args(["build", "--quiet", "-j1", "--profile", "fault", "--bin", "driver"])
         .env("VOLANG_SRC", &copy)
@@ -60,7 +69,7 @@ fn faulty_driver(package: &Path, fault: &Fault) -> io::Result<PathBuf> {
         .current_dir(package)
         .status()?;
     if !built.success() {
-        return Err(io::Error::other(format!("{} does not compile", fault.name)));
+        return Err(io::Error::other(format!("{name} does not compile")));
     }
     Ok(scratch.join("build/fault/driver"))
 }
