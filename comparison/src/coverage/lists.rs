@@ -239,8 +239,8 @@ fn letter(release: &SynthesizedInputRelease) -> usize {
 fn releases(name: &'static str, answer: &Answer, found: &mut Vec<Kind>) {
     let letters = answer.releases.iter().map(letter).collect::<Vec<_>>();
     push_if(found, letters.is_empty(), (name, RELEASES[0]));
-    for kind in 1..4 {
-        push_if(found, letters.contains(&kind), (name, RELEASES[kind]));
+    for (kind, letter) in RELEASES.into_iter().enumerate() {
+        push_if(found, letters.contains(&kind), (name, letter));
     }
 }
 
