@@ -1,5 +1,5 @@
 //! Puts each fault into a copy of the Rust and tells when the generated scripts notice it:
-//! try_faults [NAME ..]. Ends with 1 if one is not noticed.
+//! try_faults [SEED] [NAME ..]. Ends with 1 if one is not noticed.
 
 use std::io;
 use std::path::{Path, PathBuf};
@@ -17,13 +17,15 @@ const WITHOUT_FAULT: u64 = 300;
 
 fn main() -> io::Result<()> {
     let package = Path::new(env!("CARGO_MANIFEST_DIR"));
-    let names = std::env::args().skip(1).collect::<Vec<_>>();
+    let mut names = std::env::args().skip(1).collect::<Vec<_>>();
+    let seed = names.first().and_then(|word| word.parse().ok());
+    names.drain(..usize::from(seed.is_some()));
     let mut faults = all(&package.join("faults"))?;
     faults.retain(|fault| names.is_empty() || names.contains(&fault.name));
     let mut plan = Plan {
         count: WITHOUT_FAULT,
         calls: CALLS,
-        seed: 1,
+        seed: seed.unwrap_or(1),
         profiles: Profile::ALL.to_vec(),
         verbs: all_verbs(),
     };
