@@ -1,6 +1,8 @@
 //! Writes scripts. A model of what exists, the driver's own library run beside, keeps most calls valid.
 
 mod events;
+mod fill;
+mod follow;
 mod geometry;
 mod mutate;
 mod pick;
@@ -43,7 +45,7 @@ impl Profile {
     }
 }
 
-/// What a script of the profile `limits` fills, or whose generations one of `ends` wears out.
+/// What a script of the profile `limits` fills, or whose generations one of `ends` wears out. `Small` has small limits.
 #[derive(Clone, Copy, Debug, Eq, PartialEq)]
 enum Mode {
     Plain,
@@ -62,9 +64,9 @@ enum Mode {
 /// Each verb and how often it stands in the profiles normal, wild, limits, geometry, ends.
 const WEIGHTS: [(&str, [u64; 5]); 41] = [
     ("digest", [0, 1, 0, 0, 0]),
-    ("new", [0, 1, 1, 0, 0]),
-    ("new_at", [0, 1, 1, 0, 4]),
-    ("router", [0, 1, 2, 0, 1]),
+    ("new", [0, 1, 1, 1, 1]),
+    ("new_at", [0, 1, 1, 1, 4]),
+    ("router", [0, 1, 2, 1, 1]),
     ("create_window", [3, 4, 8, 2, 8]),
     ("close_window", [2, 3, 4, 1, 8]),
     ("create_view", [5, 5, 10, 3, 10]),
@@ -74,27 +76,27 @@ const WEIGHTS: [(&str, [u64; 5]); 41] = [
     ("update_surface_geometry", [4, 4, 1, 14, 2]),
     ("update_surface_input_policy", [5, 5, 2, 2, 3]),
     ("register_surface_system_shortcut_set", [8, 8, 12, 1, 6]),
-    ("set_focus", [9, 8, 3, 2, 8]),
+    ("set_focus", [14, 12, 4, 3, 10]),
     ("capture_pointer", [5, 5, 5, 1, 5]),
     ("capture_pointer_for", [8, 8, 16, 3, 8]),
     ("release_pointer", [3, 4, 2, 1, 3]),
     ("release_pointer_for", [4, 5, 2, 1, 3]),
     ("release_device_pointer_captures", [2, 2, 1, 1, 2]),
-    ("begin_ime", [4, 4, 1, 0, 4]),
-    ("end_ime", [3, 3, 1, 0, 2]),
+    ("begin_ime", [8, 8, 1, 1, 10]),
+    ("end_ime", [3, 3, 1, 1, 4]),
     ("suspend_view_input", [2, 2, 1, 1, 2]),
     ("arbitrate", [14, 14, 10, 4, 10]),
     ("close_surface", [7, 7, 8, 4, 22]),
-    ("shutdown", [0, 1, 1, 0, 5]),
+    ("shutdown", [0, 1, 1, 1, 5]),
     ("hit_test_stack", [4, 4, 2, 25, 1]),
-    ("inverse_point", [2, 2, 0, 25, 0]),
+    ("inverse_point", [2, 2, 1, 25, 1]),
     ("route", [70, 55, 60, 35, 35]),
     ("release_surface", [2, 4, 2, 1, 3]),
     ("release_all", [1, 2, 1, 1, 1]),
-    ("view_window", [1, 1, 1, 0, 1]),
-    ("view_metrics", [1, 1, 1, 0, 1]),
-    ("view_input_state", [1, 1, 1, 0, 1]),
-    ("view_pointer_captures", [1, 1, 1, 0, 1]),
+    ("view_window", [1, 1, 1, 1, 1]),
+    ("view_metrics", [1, 1, 1, 1, 1]),
+    ("view_input_state", [1, 1, 1, 1, 1]),
+    ("view_pointer_captures", [1, 1, 1, 1, 1]),
     ("surface_descriptor", [1, 1, 1, 1, 1]),
     ("view_layers", [1, 1, 1, 1, 1]),
     ("traces", [1, 1, 1, 1, 1]),
@@ -118,6 +120,8 @@ struct Maker {
     allowed: Vec<&'static str>,
     script: Vec<u8>,
     calls: usize,
+    /// About so many calls the script is to have.
+    most: usize,
     /// The line being made is to have a wrong argument.
     faulty: bool,
     fault: Fault,
@@ -150,6 +154,7 @@ pub fn script(seed: u64, calls: usize, profile: Profile, verbs: &[&'static str])
     let mode = match profile {
         Profile::Limits => rng.pick(&modes),
         Profile::Ends => rng.pick(&old),
+        Profile::Normal if rng.percent(15) => Mode::Small,
         _ => Mode::Plain,
     };
     let mut maker = Maker {
@@ -160,11 +165,15 @@ pub fn script(seed: u64, calls: usize, profile: Profile, verbs: &[&'static str])
         allowed: verbs.to_vec(),
         script: Vec::new(),
         calls: 0,
+        most: calls,
         faulty: false,
         fault: Fault::Nowhere,
     };
     maker.start();
     maker.furnish();
+    if profile == Profile::Limits && maker.rng.percent(50) {
+        maker.fill();
+    }
     while maker.calls < calls {
         maker.step();
     }
@@ -282,46 +291,8 @@ impl Maker {
             self.emit(&line);
             return;
         }
-        match (verb, self.emit(line.as_bytes())) {
-            ("close_surface", Some(0)) => self.release_after_close(&line),
-            ("close_surface", Some(22)) => self.close_emptied_view(),
-            _ => {}
-        }
-        // Without digests only for a call or two.
-        if line.starts_with("digest 0") {
-            if self.may("counts") {
-                self.emit(b"counts");
-            }
-            self.emit(b"digest 1");
-        }
-    }
-
-    /// An accepted close is followed at once by the panel's release or the release of all.
-    fn release_after_close(&mut self, close: &str) {
-        let often = match self.profile {
-            Profile::Normal => 100,
-            Profile::Wild => 50,
-            _ => 70,
-        };
-        if !self.rng.percent(often) {
-            return;
-        }
-        let panel = close.strip_prefix("close_surface ").unwrap_or("0 1");
-        let all = self.may("release_all") && (self.rng.percent(12) || !self.may("release_surface"));
-        if all {
-            self.emit(b"release_all");
-        } else if self.may("release_surface") {
-            self.emit(format!("release_surface {panel}").as_bytes());
-        }
-    }
-
-    /// After a close refused 22 the panel's view may be closed while the panel lives on.
-    fn close_emptied_view(&mut self) {
-        if self.may("close_view") && self.rng.percent(50) {
-            if let Some(line) = self.line("close_view") {
-                self.emit(line.as_bytes());
-            }
-        }
+        let answer = self.emit(line.as_bytes());
+        self.follow(verb, &line, answer);
     }
 
     fn weights(&self) -> Vec<u64> {
@@ -353,7 +324,7 @@ impl Maker {
         };
         match (self.mode, verb) {
             (Mode::OldWindows | Mode::OldViews | Mode::OldPanels, _) => {
-                1 + 2 * u64::from(often.contains(&verb))
+                1 + 2 * u64::from(often.contains(&verb) || verb == "shutdown")
             }
             _ if often.contains(&verb) => 12,
             (Mode::Starts, _) => 1,

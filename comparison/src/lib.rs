@@ -7,12 +7,18 @@ extern crate self as vo_app_protocol;
 pub mod answer;
 pub mod calls;
 pub mod compare;
+pub mod coverage;
 pub mod dump;
+pub mod faults;
 mod fields;
 pub mod generate;
 mod handle;
 pub mod limits;
 mod link;
+pub mod no_calls;
+pub mod odd;
+pub mod program;
+pub mod record;
 pub mod script;
 pub mod shrink;
 
@@ -39,6 +45,9 @@ pub use handle::*;
 /// The router's file names this type in one report that no call here makes.
 #[derive(Clone, Debug, Eq, PartialEq)]
 pub struct GraphicsSurfaceLease;
+
+/// The folder with the Rust sources.
+pub const SOURCES: &str = env!("VOLANG_SRC_FOLDER");
 
 #[cfg(test)]
 mod tests;

@@ -1,9 +1,15 @@
 //! The format's vectors, document 01's desk session and counter table, port limits, lines that are no calls.
 
+mod faults;
 mod programs;
+mod recorded;
+
+use std::collections::BTreeSet;
 
 use crate::calls::{lines, run_script};
 use crate::dump::{Digest, Numbers};
+use crate::generate::all_verbs;
+use crate::no_calls;
 use crate::script::{parse, read_line};
 
 fn digest(list: &[u64]) -> u64 {
@@ -82,57 +88,17 @@ fn desk_session() {
 
 #[test]
 fn lines_that_are_no_calls() {
-    let bad: [&[u8]; 38] = [
-        b"unknown",
-        b"counts ",
-        b" counts",
-        b"counts 0",
-        b"Counts",
-        b"counts\r",
-        b"counts\t",
-        b"digest",
-        b"digest 2",
-        b"digest 01",
-        b"digest +1",
-        b"digest -0",
-        b"digest  1",
-        b"digest 1 ",
-        b"digest -1",
-        b"digest 1\0",
-        b"digest \xFF",
-        b"\xFF",
-        b"router 18446744073709551616",
-        b"router 1 1",
-        b"close_window 4294967296 1",
-        b"close_window 0",
-        b"set_focus 0 1 0 0 1 0",
-        b"set_focus 0 1 2 0 1 0",
-        b"register_surface_system_shortcut_set 0 1 0 71",
-        b"register_surface_system_shortcut_set 0 1 0 1 1 0",
-        b"arbitrate 0 1 11 0 0 0 0 0 0 0 0",
-        b"arbitrate 0 1 4 0 0 0 0 0 0 0 1 0 1",
-        b"arbitrate 0 1 0 0 0 0 0 0 1 0 0",
-        b"hit_test_stack 0 1 2147483648 0 32",
-        b"inverse_point 1 0 0 1 0 0 0 -2147483649",
-        b"route 1 1 1 0 1 0 1 7 1 5 0 9",
-        b"route 1 1 1 0 1 0 1 7 1 0 64 9",
-        b"route 1 1 1 0 1 0 1 7 1 0 0 10",
-        b"route 1 1 1 0 1 0 1 7 1 0 0 9 0",
-        b"route 1 1 1 0 1 0 1 7 1 0 0 4 65536",
-        b"#\xFFcounts\r",
-        b"-",
-    ];
-    for line in bad {
-        if line[0] == b'#' {
-            assert_eq!(run_script(line), "");
-            continue;
-        }
-        let text = String::from_utf8_lossy(line).into_owned();
-        assert_eq!(run_script(line), "1 ? 0 - - - - -\n", "{text:?}");
+    for line in no_calls::lines() {
+        let text = String::from_utf8_lossy(&line).into_owned();
+        assert_eq!(run_script(&line), "1 ? 0 - - - - -\n", "{text:?}");
     }
-    let long = ["counts", &" 1".repeat(257)].concat();
-    assert!(parse(long.as_bytes()).is_none());
-    assert!(parse(&[b'a'; 5_000]).is_none());
+    // They are made from calls of every verb.
+    let verbs = no_calls::calls().map(|call| {
+        assert!(parse(call.as_bytes()).is_some(), "{call}");
+        call.split(' ').next().unwrap_or_default()
+    });
+    let verbs = verbs.collect::<BTreeSet<_>>();
+    assert_eq!(verbs, all_verbs().into_iter().collect());
     // What the kind does not have is ignored.
     assert!(parse(b"arbitrate 0 1 4 9 9 9 0 5 5 77 0").is_some());
     assert_eq!(run_script(b"\n\n# nothing\n"), "");

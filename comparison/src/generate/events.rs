@@ -1,6 +1,7 @@
 //! The lines of `route` and `arbitrate`.
 
 use super::{h, Maker, Mode, Profile};
+use crate::calls::Session;
 use crate::composition::access;
 use crate::platform_input::access as router_access;
 use crate::platform_input::InputDeviceId;
@@ -50,7 +51,8 @@ impl Maker {
 
     pub fn route(&mut self) -> Option<String> {
         let (device, payload) = self.payload();
-        let view = self.view()?;
+        let by_focus = payload.starts_with(['2', '4', '5', '6']);
+        let view = if by_focus { self.focused_view()? } else { self.view()? };
         let registry = &self.session.registry;
         let window = registry.view_window(view).unwrap_or(GenerationalHandle::INVALID);
         let metrics = registry.view_metrics(view).map_or(0, |metrics| metrics.revision);
@@ -82,9 +84,41 @@ impl Maker {
         ))
     }
 
-    /// In wild scripts, at times the last sequence or time there is.
+    /// A view; often one in which a panel has the focus.
+    fn focused_view(&mut self) -> Option<GenerationalHandle> {
+        let registry = &self.session.registry;
+        let has_focus = |view: &GenerationalHandle| {
+            registry.view_input_state(*view).is_ok_and(|state| state.focused.is_some())
+        };
+        let live = access::views(registry);
+        let focused = live.iter().copied().filter(has_focus).collect::<Vec<_>>();
+        let often = self.rng.percent(70) && !focused.is_empty();
+        self.handle_of(if often { &focused } else { &live }, &live)
+    }
+
+    /// A line of `route` with nothing wrong in its header.
+    pub fn event_line(
+        &self,
+        view: GenerationalHandle,
+        device: InputDeviceId,
+        payload: &str,
+    ) -> Option<String> {
+        let Session { registry, router, .. } = &self.session;
+        let (window, metrics) =
+            (registry.view_window(view).ok()?, registry.view_metrics(view).ok()?);
+        let sequence = 1 + router_access::last_sequence(router, device).unwrap_or(0);
+        let (time, revision) = (router_access::last_time(router), metrics.revision);
+        let InputDeviceId { value, generation } = device;
+        Some(format!(
+            "route {sequence} {time} {revision} {} {} {value} {generation} 1 0 {payload}",
+            h(window),
+            h(view)
+        ))
+    }
+
+    /// At times the last sequence or time there is.
     fn far(&mut self, sequence: u64, time: u64) -> (u64, u64) {
-        if self.profile != Profile::Wild || !self.rng.percent(1) {
+        if !matches!(self.profile, Profile::Wild | Profile::Ends) || !self.rng.percent(1) {
             return (sequence, time);
         }
         if self.rng.percent(50) {
@@ -133,13 +167,36 @@ impl Maker {
                 let connected = self.mode == Mode::Bindings || self.rng.percent(55);
                 let device = match self.rng.pick_some(&open) {
                     Some(open) if !connected && self.rng.percent(80) => open,
+                    _ if self.rng.percent(50) => self.pressing_device(device),
                     _ => device,
                 };
                 (device, format!("6 {} {}", u8::from(connected), self.rng.below(2)))
             }
             7 => (device, format!("7 {}", u8::from(self.rng.percent(40)))),
             8 => (device, format!("8 {}", u8::from(self.rng.percent(40)))),
-            _ => (device, "9".to_string()),
+            _ => (self.pressing_device(device), "9".to_string()),
+        }
+    }
+
+    /// Often a device that has an open press, one with a key and a gamepad first; else the one given.
+    fn pressing_device(&mut self, device: InputDeviceId) -> InputDeviceId {
+        let router = &self.session.router;
+        let of_pointer = |pointer: CompositionPointerId| InputDeviceId {
+            value: pointer.device,
+            generation: pointer.device_generation,
+        };
+        let pointers = router_access::pointers(router).into_iter().map(of_pointer);
+        let keys = router_access::keys(router).into_iter().map(|(device, _)| device);
+        let (pointers, keys) = (pointers.collect::<Vec<_>>(), keys.collect::<Vec<_>>());
+        let mut gamepads = router_access::gamepads(router);
+        if gamepads.iter().any(|gamepad| keys.contains(gamepad)) {
+            gamepads.retain(|gamepad| keys.contains(gamepad));
+        }
+        let kinds = [pointers, keys, gamepads];
+        let kind = self.rng.below(3) as usize;
+        match self.rng.pick_some(&kinds[kind]) {
+            Some(open) if !self.faulty && self.rng.percent(60) => open,
+            _ => device,
         }
     }
 

@@ -131,6 +131,16 @@ impl Maker {
         (seen_x.round() as i32, seen_y.round() as i32)
     }
 
+    /// The fields of an inverse point whose local x lies less than 1 beside the end of the i32 range.
+    pub fn brink(&mut self) -> String {
+        let scale = self.rng.range(65_537, 131_071);
+        let end = self.rng.pick(&[i64::from(i32::MIN), i64::from(i32::MAX)]);
+        let seen = (end * scale).div_euclid(65_536) + self.rng.below(2) as i64;
+        let x = end - end.signum() * self.rng.below(1000) as i64;
+        let other = self.rng.pick(&[65_536, -65_536, 1, 131_072]);
+        format!("{scale} 0 0 {other} {} 0 {x} {}", x - seen, self.rng.range(-9, 9))
+    }
+
     fn singular(matrix: [i32; 4]) -> bool {
         let [m11, m12, m21, m22] = matrix.map(i64::from);
         m11 * m22 == m12 * m21

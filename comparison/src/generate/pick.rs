@@ -21,14 +21,14 @@ impl Maker {
                 false
             }
             Fault::After(0) => {
-                self.fault = Fault::Done(self.rng.percent(20));
+                self.fault = Fault::Done(self.rng.percent(30));
                 true
             }
             Fault::After(left) => {
                 *left -= 1;
                 false
             }
-            Fault::Done(more) => *more && self.rng.percent(30),
+            Fault::Done(more) => *more && self.rng.percent(50),
         }
     }
 
@@ -91,7 +91,7 @@ impl Maker {
             descriptor.is_ok_and(|descriptor| registry.view_window(descriptor.view).is_err())
         };
         let left = live.iter().filter(alone).copied().collect::<Vec<_>>();
-        if !left.is_empty() && self.rng.percent(25) {
+        if !left.is_empty() && self.rng.percent(40) {
             return self.handle_of(&left, &live);
         }
         self.handle_of(&good, &live)
@@ -99,6 +99,23 @@ impl Maker {
 
     pub fn panel(&mut self) -> Option<Handle> {
         self.panel_where(|_, _| true)
+    }
+
+    /// A live panel; often one that has the focus, a capture or a composition.
+    pub fn panel_holding(&mut self) -> Option<Handle> {
+        let registry = &self.session.registry;
+        let mut holding = Vec::new();
+        for view in access::views(registry) {
+            if let Ok(state) = registry.view_input_state(view) {
+                holding.extend([state.focused, state.ime, state.ime].into_iter().flatten());
+            }
+            let captures = registry.view_pointer_captures(view).unwrap_or_default();
+            holding.extend(captures.into_iter().map(|(_, panel)| panel));
+        }
+        if self.rng.percent(70) {
+            return self.panel();
+        }
+        self.panel_where(|panel, _| holding.contains(&panel))
     }
 
     /// The expected revision, or a wrong one.
@@ -170,6 +187,9 @@ impl Maker {
     }
 
     pub fn some_mask(&mut self) -> u64 {
+        if self.rng.percent(50) {
+            return self.rng.pick(&[1, 3]);
+        }
         self.rng.pick(&[1, 2, 4, 3, 6, 8, 12, 1 << 63, (1 << 63) | 1, u64::MAX])
     }
 

@@ -4,6 +4,7 @@ use super::events::{k, optional};
 use super::pick::takes_input;
 use super::{h, Maker, Mode, Profile};
 use crate::composition::access;
+use crate::platform_input::access as router_access;
 use crate::CompositionPointerId;
 
 impl Maker {
@@ -30,10 +31,7 @@ impl Maker {
             "capture_pointer" => {
                 format!("{} {}", h(self.panel_where(|_, d| takes_input(d))?), self.revision())
             }
-            "capture_pointer_for" => {
-                let panel = self.panel_where(|_, descriptor| takes_input(descriptor))?;
-                format!("{} {} {}", k(self.pointer()), h(panel), self.revision())
-            }
+            "capture_pointer_for" => self.capture_pointer_for()?,
             "release_pointer" => self.release_pointer()?,
             "release_pointer_for" => self.release_pointer_for()?,
             "release_device_pointer_captures" => {
@@ -43,7 +41,7 @@ impl Maker {
             "begin_ime" | "end_ime" => self.ime(verb == "begin_ime")?,
             "suspend_view_input" => format!("{} {}", h(self.view()?), self.revision()),
             "arbitrate" => return self.arbitrate(),
-            "close_surface" => h(self.panel()?),
+            "close_surface" => h(self.panel_holding()?),
             "shutdown" => {
                 let empty = self.session.registry.live_window_count() == 0;
                 (!empty || self.rng.percent(5)).then(String::new)?
@@ -234,10 +232,15 @@ impl Maker {
         }
         let mut line = format!("{} {revision} {count}", h(panel));
         let zero = if self.wrong() { self.rng.below(count + 1) } else { count };
+        // Registrations that are alike, so that the view, the z order and the handle decide between them.
+        let alike = self.rng.percent(35).then(|| 1 + self.rng.below(2));
         for place in 0..count {
-            let priority = self.rng.pick(&[0, 0, 0, 1, -1, i16::MIN, i16::MAX]);
+            let priority = self.rng.pick(&[0, 0, 0, 0, 0, 1, -1, i16::MIN, i16::MAX]);
             let mask = if place == zero { 0 } else { self.some_mask() };
-            line += &format!(" {mask} {} {priority}", self.rng.below(3));
+            line += &match alike {
+                Some(scope) => format!(" {} {scope} 0", mask.min(1)),
+                None => format!(" {mask} {} {priority}", self.rng.below(3)),
+            };
         }
         Some(line)
     }
@@ -246,7 +249,8 @@ impl Maker {
         if self.rng.percent(12) {
             return Some(format!("{} 0 0 0 {}", h(self.view()?), self.revision()));
         }
-        let panel = self.panel_where(|_, descriptor| takes_input(descriptor))?;
+        let refused = self.wrong();
+        let panel = self.panel_where(|_, descriptor| takes_input(descriptor) != refused)?;
         let own = self.session.registry.surface_descriptor(panel).map(|d| d.view);
         let live = access::views(&self.session.registry);
         let view = match own {
@@ -254,6 +258,20 @@ impl Maker {
             _ => self.view()?,
         };
         Some(format!("{} {} {}", h(view), optional(Some(panel)), self.revision()))
+    }
+
+    /// Some pointer, or that of an open press: then often for the panel of that press.
+    fn capture_pointer_for(&mut self) -> Option<String> {
+        let presses = router_access::pointer_presses(&self.session.router);
+        let mut panel = self.panel_where(|_, descriptor| takes_input(descriptor))?;
+        let mut pointer = self.pointer();
+        if let (Some(press), false) = (self.rng.pick_some(&presses), self.faulty) {
+            if self.rng.percent(40) {
+                pointer = press.0;
+                panel = if self.rng.percent(70) { press.1 } else { panel };
+            }
+        }
+        Some(format!("{} {} {}", k(pointer), h(panel), self.revision()))
     }
 
     fn release_pointer(&mut self) -> Option<String> {
@@ -273,7 +291,7 @@ impl Maker {
             .flat_map(|view| registry.view_pointer_captures(view).unwrap_or_default())
             .collect::<Vec<_>>();
         let live = access::surfaces(registry);
-        if self.profile == Profile::Ends && self.rng.percent(15) {
+        if self.profile == Profile::Ends && self.rng.percent(40) {
             let panel = self.panel()?;
             return Some(format!("{} {} {}", k(self.pointer()), h(panel), self.revision()));
         }
@@ -307,9 +325,10 @@ impl Maker {
         let [m11, m12, m21, m22] = matrix;
         let (tx, ty) = if self.rng.percent(70) { (0, 0) } else { (self.edge(), self.edge()) };
         let transform = [m11, m12, m21, m22, tx, ty];
-        let (x, y) = match self.rng.below(10) {
+        let (x, y) = match self.rng.below(12) {
             0..=2 => self.cancelling(transform),
             3..=5 => self.half(transform),
+            6 | 7 => return self.brink(),
             _ => (self.edge(), self.edge()),
         };
         format!("{m11} {m12} {m21} {m22} {tx} {ty} {x} {y}")

@@ -2,7 +2,7 @@
 
 use super::{InputDeviceId, PlatformInputError, PlatformInputEvent, PlatformInputRouter};
 use crate::dump::{self, Numbers};
-use crate::{CompositionPointerId, CompositionRegistry};
+use crate::{CompositionPointerId, CompositionRegistry, GenerationalHandle};
 
 /// The Rust's own checks that come before sequence and time.
 pub fn checks_before_order(
@@ -32,6 +32,13 @@ pub fn last_sequence(router: &PlatformInputRouter, device: InputDeviceId) -> Opt
 
 pub fn pointers(router: &PlatformInputRouter) -> Vec<CompositionPointerId> {
     router.active_pointers.keys().copied().collect()
+}
+
+/// The open presses of pointers, with their panels.
+pub fn pointer_presses(
+    router: &PlatformInputRouter,
+) -> Vec<(CompositionPointerId, GenerationalHandle)> {
+    router.active_pointers.iter().map(|(pointer, panel)| (*pointer, *panel)).collect()
 }
 
 pub fn keys(router: &PlatformInputRouter) -> Vec<(InputDeviceId, u32)> {

@@ -2,7 +2,9 @@
 
 use crate::calls::{lines, run_script};
 use crate::compare::{compare, Plan};
+use crate::coverage::Coverage;
 use crate::generate::{all_verbs, script, Profile};
+use crate::odd::converse;
 
 #[test]
 fn generate_is_deterministic() {
@@ -28,7 +30,7 @@ fn generate_keeps_to_its_verbs() {
 /// In normal scripts each accepted close is followed at once by its release, and nothing is at its end.
 #[test]
 fn normal_scripts_keep_the_premises() {
-    for seed in 0..20 {
+    for seed in 0..200 {
         let text = script(seed, 300, Profile::Normal, &all_verbs());
         let out = run_script(&text);
         let calls = lines(&text).filter(|line| line[0] != b'#').collect::<Vec<_>>();
@@ -42,6 +44,22 @@ fn normal_scripts_keep_the_premises() {
                 assert!(next == "release_all" || next == format!("release_surface {panel}"));
             }
         }
+    }
+}
+
+/// Every profile has every verb, payload and event accepted; only the premises leave out the shutdown.
+#[test]
+fn every_profile_has_every_verb() {
+    for profile in Profile::ALL {
+        let mut coverage = Coverage::default();
+        for seed in 0..300 {
+            coverage.add(&script(seed, 200, profile, &all_verbs()));
+        }
+        let mut missing = coverage.missing_pairs();
+        missing.retain(|(_, number)| *number == 0);
+        let without = if profile == Profile::Normal { vec!["shutdown"] } else { vec![] };
+        let missing = missing.iter().map(|(verb, _)| verb.as_str()).collect::<Vec<_>>();
+        assert_eq!(missing, without, "{}", profile.name());
     }
 }
 
@@ -115,4 +133,15 @@ fn fault(line: &str) -> String {
         ["0", "2", "-", "-", "-", "1.1", "-"] => line.replacen(" 0 2 ", " 3 2 ", 1),
         _ => line.to_string(),
     }
+}
+
+/// A conversation hears what the program says, and notices one that says nothing.
+#[test]
+fn a_conversation_awaits_each_answer() {
+    assert_eq!(
+        converse("cat", b"counts\n\n# no answer\n"),
+        Err("an answer to no line".to_string())
+    );
+    assert_eq!(converse("cat", b"counts\nstate"), Ok(b"counts\nstate\n".to_vec()));
+    assert!(converse("true", b"counts\ncounts\n").is_err());
 }
