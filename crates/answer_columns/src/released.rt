@@ -109,7 +109,7 @@ fn capture_release(capture: Capture) -> Binding
 }
 
 // How many captures are listed: a stored count past the table is read as a full table.
-fn count_captures(captures: CaptureList) -> usize
+pub fn count_captures(captures: CaptureList) -> usize
     ensures { λ r. ⌜ r ≡ length (entriesOf captureList captures) ⌝ }
 {
     let n = captures.len;

@@ -8,19 +8,20 @@ use Rattle.input_router.specs.declared.router.PlatformInputRouter.{PlatformInpu
 use Rattle.calls.specs.declared.call.Call.{Call}
 use Rattle.counter.specs.declared.answer.Answer.{Answer}
 use Rattle.counter.specs.declared.step.Counter.{Counter}
+use Rattle.answer_numbers.specs.declared.sink.SinkKind.the-variants.{Column, Dump}
 use Rattle.answer_numbers.specs.Numbers.{dumpDigest}
 use Rattle.registry_dump.specs.Registry.{registryNumbers}
 use Rattle.router_dump.specs.Router.{routerNumbers}
 use Rattle.answer_columns.specs.Pieces.{putAll, spacePieces, nonePieces, cellPieces}
 use Rattle.answer_columns.specs.Columns.{numberPieces, columnPieces}
 use Rattle.answer_more.specs.More.{moreOf}
-use Rattle.answer_more.specs.Place.{dumpTaken, moreTaken}
+use Rattle.answer_more.specs.Place.{placed, morePlaced}
 use Rattle.answer_line.specs.Named.{handleFor, namedPieces}
 
 -- columns 1 to 8 of an answered call, from the start of the buffer
 abbrev pub answerTaken : ℕ → Call → Answer → Counter → List ℕ → List ℕ × ℕ
 answerTaken calls call a k buf =
-    moreTaken (moreOf call a k) (putAll (namedPieces (handleFor call a)) (putAll (columnPieces calls (k .registry .revision) a) (buf, 0)))
+    morePlaced Column (moreOf call a k) (putAll (namedPieces (handleFor call a)) (putAll (columnPieces calls (k .registry .revision) a) (buf, 0)))
 
 -- columns 4 to 7 of a call that shows nothing: four times `-` (45) and a space (32)
 abbrev pub blankPieces : List (List ℕ)
@@ -40,10 +41,10 @@ noCallPieces calls revision = cellPieces calls ++ ((63 ∷ 32 ∷ []) ∷ []) ++
 
 -- `state` shows the whole dump of the registry, `router_state` that of the router
 abbrev pub stateTaken : ℕ → CompositionRegistry → List ℕ → List ℕ × ℕ
-stateTaken calls r buf = dumpTaken (registryNumbers r) (putAll (headPieces calls 0 (r .revision)) (buf, 0))
+stateTaken calls r buf = placed Dump (registryNumbers r) (putAll (headPieces calls 0 (r .revision)) (buf, 0))
 
 abbrev pub routerStateTaken : ℕ → ℕ → PlatformInputRouter → List ℕ → List ℕ × ℕ
-routerStateTaken calls revision t buf = dumpTaken (routerNumbers t) (putAll (headPieces calls 0 revision) (buf, 0))
+routerStateTaken calls revision t buf = placed Dump (routerNumbers t) (putAll (headPieces calls 0 revision) (buf, 0))
 
 -- a digest in decimal, behind a space
 abbrev pub digestPieces : ℕ → List (List ℕ)

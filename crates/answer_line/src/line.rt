@@ -11,6 +11,7 @@ use answer::put::put_u64;
 use answer_columns::columns::put_columns;
 use answer_columns::pieces::put_space;
 use answer_more::more::put_more;
+use answer_numbers::sink::SinkKind;
 use calls::call::Call;
 use counter::answer::Answer;
 use counter::step::Counter;
@@ -31,7 +32,7 @@ pub fn put_answer(out: &mut [u8], calls: u64, call: Call, answer: Answer, counte
     let registry = counter.registry;
     let a = put_columns(out, 0, calls, registry.revision, answer);
     let b = put_named(out, a, named_handle(outcome, call, handle, kind, shown));
-    put_more(out, b, call, answer, counter)
+    put_more(out, b, SinkKind::Column, call, answer, counter)
 }
 
 // A digest in decimal, behind a space.

@@ -1,4 +1,4 @@
--- The place after a column: numbers taken into a sink that starts there.
+-- The place after numbers: they are taken into a sink that starts at a place.
 use Prim.Native.Nat.{ℕ}
 use mathlib.Core.Path.{_≡_, ap, _∙_}
 use mathlib.Core.List.{List}

@@ -8,7 +8,7 @@ ghost use Rattle.composition_close.specs.Reports.{releases as releaseTable, clo
 ghost use Rattle.answer_numbers.specs.declared.sink.Sink.{Sink};
 ghost use Rattle.answer_numbers.specs.Numbers.{numbersTaken};
 ghost use Rattle.answer_more.specs.Closing.{releaseNumber, releasesNumbers, closeNumbers, reportNumbers, reportsNumbers, shutdownNumbers, closingNumbers};
-ghost use Rattle.answer_more.specs.Place.{columnTaken};
+ghost use Rattle.answer_more.specs.Place.{placed};
 use answer_numbers::groups::take_handle;
 use answer_numbers::groups::take_optional;
 use answer_numbers::handle_lists::take_handles;
@@ -119,13 +119,14 @@ fn take_shutdown(out: &mut [u8], sink: Sink, report: CompositionShutdownReport) 
 pub fn put_closing(
     out: &mut [u8],
     at: usize,
+    sink_kind: SinkKind,
     call: CloseCall,
     closed: SurfaceCloseReport,
     shutdown: CompositionShutdownReport,
 ) -> usize
-    ensures { λ r. ⌜ _≡_ {A = List ℕ × ℕ} (now (out .exit), r) (columnTaken (closingNumbers call closed shutdown) (now (out .entry), at)) ⌝ }
+    ensures { λ r. ⌜ _≡_ {A = List ℕ × ℕ} (now (out .exit), r) (placed «sink_kind» (closingNumbers call closed shutdown) (now (out .entry), at)) ⌝ }
 {
-    let sink = sink_from(SinkKind::Column, at);
+    let sink = sink_from(sink_kind, at);
     match call {
         CloseCall::CloseSurface(_) => {
             let end = take_closed(out, sink, closed);

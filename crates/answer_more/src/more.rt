@@ -1,14 +1,14 @@
-// Column 8 of an answer.
+// What an answer shows: column 8, or the words behind a host's answer.
 ghost use Prim.Native.Nat.{ℕ};
 ghost use mathlib.Core.List.{List};
 ghost use mathlib.Core.Path.{_≡_};
 ghost use Rattle.answer_numbers.specs.declared.sink.Sink.{Sink};
 ghost use Rattle.answer_numbers.specs.Numbers.{numbersTaken};
 ghost use Rattle.answer_more.specs.More.{metricsMore, stateMore, lossNumbers, eventMore, routerMore, moreOf};
-ghost use Rattle.answer_more.specs.Place.{moreTaken};
+ghost use Rattle.answer_more.specs.Place.{morePlaced};
 use crate::closing::put_closing;
+use crate::none::put_none;
 use crate::shown::put_shown;
-use answer::put::put_byte;
 use answer_numbers::groups::take_input_state;
 use answer_numbers::groups::take_metrics;
 use answer_numbers::sink::Sink;
@@ -24,26 +24,26 @@ use counter::step::Counter;
 use input_releases::answer::RouteKind;
 
 // The metrics that an update made.
-fn put_metrics(out: &mut [u8], at: usize, metrics: OptionalMetrics) -> usize
-    ensures { λ r. ⌜ _≡_ {A = List ℕ × ℕ} (now (out .exit), r) (moreTaken (metricsMore metrics) (now (out .entry), at)) ⌝ }
+fn put_metrics(out: &mut [u8], at: usize, sink_kind: SinkKind, metrics: OptionalMetrics) -> usize
+    ensures { λ r. ⌜ _≡_ {A = List ℕ × ℕ} (now (out .exit), r) (morePlaced «sink_kind» (metricsMore metrics) (now (out .entry), at)) ⌝ }
 {
     match metrics {
-        OptionalMetrics::None => put_byte(out, at, b'-'),
+        OptionalMetrics::None => put_none(out, at, sink_kind),
         OptionalMetrics::Some(m) => {
-            let end = take_metrics(out, sink_from(SinkKind::Column, at), m);
+            let end = take_metrics(out, sink_from(sink_kind, at), m);
             end.at
         }
     }
 }
 
 // What a suspend let go.
-fn put_state(out: &mut [u8], at: usize, state: OptionalInputState) -> usize
-    ensures { λ r. ⌜ _≡_ {A = List ℕ × ℕ} (now (out .exit), r) (moreTaken (stateMore state) (now (out .entry), at)) ⌝ }
+fn put_state(out: &mut [u8], at: usize, sink_kind: SinkKind, state: OptionalInputState) -> usize
+    ensures { λ r. ⌜ _≡_ {A = List ℕ × ℕ} (now (out .exit), r) (morePlaced «sink_kind» (stateMore state) (now (out .entry), at)) ⌝ }
 {
     match state {
-        OptionalInputState::None => put_byte(out, at, b'-'),
+        OptionalInputState::None => put_none(out, at, sink_kind),
         OptionalInputState::Some(s) => {
-            let end = take_input_state(out, sink_from(SinkKind::Column, at), s);
+            let end = take_input_state(out, sink_from(sink_kind, at), s);
             end.at
         }
     }
@@ -61,12 +61,18 @@ fn take_loss(out: &mut [u8], sink: Sink, state: OptionalInputState) -> Sink
 }
 
 // What became of a routed event.
-fn put_event(out: &mut [u8], at: usize, kind: RouteKind, state: OptionalInputState) -> usize
-    ensures { λ r. ⌜ _≡_ {A = List ℕ × ℕ} (now (out .exit), r) (moreTaken (eventMore kind state) (now (out .entry), at)) ⌝ }
+fn put_event(
+    out: &mut [u8],
+    at: usize,
+    sink_kind: SinkKind,
+    kind: RouteKind,
+    state: OptionalInputState,
+) -> usize
+    ensures { λ r. ⌜ _≡_ {A = List ℕ × ℕ} (now (out .exit), r) (morePlaced «sink_kind» (eventMore kind state) (now (out .entry), at)) ⌝ }
 {
-    let sink = sink_from(SinkKind::Column, at);
+    let sink = sink_from(sink_kind, at);
     match kind {
-        RouteKind::Nothing => put_byte(out, at, b'-'),
+        RouteKind::Nothing => put_none(out, at, sink_kind),
         RouteKind::Disconnected => {
             let end = take_plain(out, sink, 0);
             end.at
@@ -85,59 +91,67 @@ fn put_event(out: &mut [u8], at: usize, kind: RouteKind, state: OptionalInputSta
 fn put_routed(
     out: &mut [u8],
     at: usize,
+    sink_kind: SinkKind,
     call: RouterCall,
     kind: RouteKind,
     state: OptionalInputState,
 ) -> usize
-    ensures { λ r. ⌜ _≡_ {A = List ℕ × ℕ} (now (out .exit), r) (moreTaken (routerMore call kind state) (now (out .entry), at)) ⌝ }
+    ensures { λ r. ⌜ _≡_ {A = List ℕ × ℕ} (now (out .exit), r) (morePlaced «sink_kind» (routerMore call kind state) (now (out .entry), at)) ⌝ }
 {
     match call {
-        RouterCall::Route(_) => put_event(out, at, kind, state),
-        RouterCall::ReleaseSurface(_) => put_byte(out, at, b'-'),
-        RouterCall::ReleaseAll => put_byte(out, at, b'-'),
+        RouterCall::Route(_) => put_event(out, at, sink_kind, kind, state),
+        RouterCall::ReleaseSurface(_) => put_none(out, at, sink_kind),
+        RouterCall::ReleaseAll => put_none(out, at, sink_kind),
     }
 }
 
 // A refused call shows nothing.
-pub fn put_more(out: &mut [u8], at: usize, call: Call, answer: Answer, counter: Counter) -> usize
-    ensures { λ r. ⌜ _≡_ {A = List ℕ × ℕ} (now (out .exit), r) (moreTaken (moreOf call answer counter) (now (out .entry), at)) ⌝ }
+pub fn put_more(
+    out: &mut [u8],
+    at: usize,
+    sink_kind: SinkKind,
+    call: Call,
+    answer: Answer,
+    counter: Counter,
+) -> usize
+    ensures { λ r. ⌜ _≡_ {A = List ℕ × ℕ} (now (out .exit), r) (morePlaced «sink_kind» (moreOf call answer counter) (now (out .entry), at)) ⌝ }
 {
     let outcome = answer.outcome;
     if outcome.is_accepted() {} else {
-        return put_byte(out, at, b'-');
+        return put_none(out, at, sink_kind);
     }
     match call {
         Call::Panel(_) => {
             let made = answer.made;
             let metrics = made.metrics;
-            put_metrics(out, at, metrics)
+            put_metrics(out, at, sink_kind, metrics)
         }
         Call::Input(_) => {
             let made = answer.made;
             let state = made.input_state;
-            put_state(out, at, state)
+            put_state(out, at, sink_kind, state)
         }
-        Call::ReleaseDevice(_) => put_byte(out, at, b'-'),
-        Call::Shortcut(_) => put_byte(out, at, b'-'),
-        Call::Arbitrate(_) => put_byte(out, at, b'-'),
+        Call::ReleaseDevice(_) => put_none(out, at, sink_kind),
+        Call::Shortcut(_) => put_none(out, at, sink_kind),
+        Call::Arbitrate(_) => put_none(out, at, sink_kind),
         Call::Close(which) => {
             let listed = answer.listed;
             let closed = listed.closed;
             let shutdown = listed.shutdown;
-            put_closing(out, at, which, closed, shutdown)
+            put_closing(out, at, sink_kind, which, closed, shutdown)
         }
         Call::Router(which) => {
             let report = answer.report;
             let kind = report.kind;
             let state = report.view_release;
-            put_routed(out, at, which, kind, state)
+            put_routed(out, at, sink_kind, which, kind, state)
         }
         Call::Read(_) => {
             let read = answer.read;
             let shown = read.shown;
             let hits = read.hits;
             let registry = counter.registry;
-            put_shown(out, at, shown, hits, registry)
+            put_shown(out, at, sink_kind, shown, hits, registry)
         }
     }
 }

@@ -6,12 +6,12 @@ ghost use Rattle.composition_state.specs.Views.{viewAt};
 ghost use Rattle.answer_numbers.specs.declared.sink.Sink.{Sink};
 ghost use Rattle.answer_numbers.specs.Numbers.{numbersTaken};
 ghost use Rattle.registry_dump.specs.Views.{capturesNumbers, viewLayersNumbers};
-ghost use Rattle.answer_more.specs.Place.{moreTaken};
+ghost use Rattle.answer_more.specs.Place.{morePlaced};
 ghost use Rattle.answer_more.specs.Shown.{shownMore};
 use crate::hits::take_hit_numbers;
 use crate::hits::take_local;
 use crate::hits::take_shown_counts;
-use answer::put::put_byte;
+use crate::none::put_none;
 use answer_numbers::groups::take_descriptor;
 use answer_numbers::groups::take_input_state;
 use answer_numbers::groups::take_metrics;
@@ -55,16 +55,17 @@ fn take_layers_of(
 pub fn put_shown(
     out: &mut [u8],
     at: usize,
+    sink_kind: SinkKind,
     shown: Shown,
     hits: HitNumbers,
     registry: CompositionRegistry,
 ) -> usize
-    ensures { λ r. ⌜ _≡_ {A = List ℕ × ℕ} (now (out .exit), r) (moreTaken (shownMore shown hits registry) (now (out .entry), at)) ⌝ }
+    ensures { λ r. ⌜ _≡_ {A = List ℕ × ℕ} (now (out .exit), r) (morePlaced «sink_kind» (shownMore shown hits registry) (now (out .entry), at)) ⌝ }
 {
-    let sink = sink_from(SinkKind::Column, at);
+    let sink = sink_from(sink_kind, at);
     match shown {
-        Shown::Nothing => put_byte(out, at, b'-'),
-        Shown::Window(_) => put_byte(out, at, b'-'),
+        Shown::Nothing => put_none(out, at, sink_kind),
+        Shown::Window(_) => put_none(out, at, sink_kind),
         Shown::Metrics(m) => {
             let end = take_metrics(out, sink, m);
             end.at

@@ -19,7 +19,7 @@ use Rattle.answer.specs.Put.{put}
 use Rattle.answer_numbers.specs.declared.sink.Sink.{Sink}
 use Rattle.answer_numbers.specs.declared.sink.SinkKind.{SinkKind}
 use Rattle.answer_numbers.specs.declared.sink.SinkKind.the-variants as kind
-use Rattle.answer_numbers.specs.Numbers.{Number, plain, signed, dumpedNumber, putNumber, separated, sinkAfter, textTaken, takenAs, numberTaken, numbersTaken}
+use Rattle.answer_numbers.specs.Numbers.{Number, plain, signed, dumpedNumber, putNumber, separated, sinkAfter, word, textTaken, wordTaken, takenAs, numberTaken, numbersTaken}
 
 -- one number, by the kind of the sink
 module _ (n : Number) (s : List ℕ × Sink) where
@@ -35,6 +35,9 @@ module _ (n : Number) (s : List ℕ × Sink) where
 
   pub in-digest : s .1 .kind ≡ kind.Digest → (s .0, sinkAfter (s .1) (s .1 .at) (addNumber (s .1 .digest) (dumpedNumber n))) ≡ numbersTaken (n ∷ []) s
   in-digest e = by-kind e
+
+  pub in-words : s .1 .kind ≡ kind.Words → wordTaken (dumpedNumber n) s ≡ numbersTaken (n ∷ []) s
+  in-words e = by-kind e
 
 -- no number
 pub nothing-taken : (s : List ℕ × Sink) → s ≡ numbersTaken [] s
@@ -77,6 +80,7 @@ taken-long : (k : SinkKind) (n : Number) (s : List ℕ × Sink) → length (take
 taken-long kind.Column n s = number-long n (separated (s .1 .«is_first») (s .0, s .1 .at)) ∙ separated-long (s .1 .«is_first») (s .0, s .1 .at)
 taken-long kind.Dump n s = put-long (decimal (dumpedNumber n)) (separated (s .1 .«is_first») (s .0, s .1 .at)) ∙ separated-long (s .1 .«is_first») (s .0, s .1 .at)
 taken-long kind.Digest n s = refl
+taken-long kind.Words n s = put-long (word (dumpedNumber n)) (s .0, s .1 .at)
 
 pub all-long : (l : List Number) (s : List ℕ × Sink) → length (numbersTaken l s .0) ≡ length (s .0)
 unfolding numbersTaken numberTaken

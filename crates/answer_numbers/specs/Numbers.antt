@@ -1,5 +1,5 @@
--- Numbers taken into a sink: as a column of an answer line, as a dump that is written out, or as the digest of a dump.
-use Prim.Native.Nat.{ℕ, zero, suc, _+_, _-_}
+-- Numbers taken into a sink: as a column of an answer line, as a dump that is written out, as the digest of a dump, or as words for a host.
+use Prim.Native.Nat.{ℕ, zero, suc, _+_, _-_, _/_, _%_}
 use mathlib.Core.Bool.{Bool, true, false, cond}
 use mathlib.Core.List.{List, [], _∷_, _++_, map}
 use lib.IntN.{ℤ, pos, negsuc}
@@ -41,6 +41,15 @@ abbrev pub separated : Bool → List ℕ × ℕ → List ℕ × ℕ
 separated true s = s
 separated false s = put (44 ∷ []) s
 
+-- a number's bytes, the low byte first
+unfoldable pub lowBytes : ℕ → ℕ → List ℕ
+lowBytes zero n = []
+lowBytes (suc k) n = (n % 256) ∷ lowBytes k (n / 256)
+
+-- a word: eight bytes
+abbrev pub word : ℕ → List ℕ
+word n = lowBytes 8 n
+
 -- the sink whose text, if it has any, starts at a place
 abbrev pub sinkFrom : SinkKind → ℕ → Sink
 sinkFrom k at = record { kind = k; at = at; «is_first» = true; digest = startDigest }
@@ -55,11 +64,18 @@ textTaken text s =
     let t = text (separated (s .1 .«is_first») (s .0, s .1 .at)) in
     (t .0, sinkAfter (s .1) (t .1) (s .1 .digest))
 
--- a column and a dump write the number; a digest takes in what a dump would write, and leaves the buffer
+-- a buffer and a sink, once a word is put after the numbers so far
+abbrev pub wordTaken : ℕ → List ℕ × Sink → List ℕ × Sink
+wordTaken n s =
+    let t = put (word n) (s .0, s .1 .at) in
+    (t .0, sinkAfter (s .1) (t .1) (s .1 .digest))
+
+-- a column and a dump write the number; a digest takes in what a dump would write, and leaves the buffer; words are a dump's numbers, each as eight bytes
 abbrev pub takenAs : SinkKind → Number → List ℕ × Sink → List ℕ × Sink
 takenAs kind.Column n s = textTaken (putNumber n) s
 takenAs kind.Dump n s = textTaken (put (decimal (dumpedNumber n))) s
 takenAs kind.Digest n s = (s .0, sinkAfter (s .1) (s .1 .at) (addNumber (s .1 .digest) (dumpedNumber n)))
+takenAs kind.Words n s = wordTaken (dumpedNumber n) s
 
 -- a buffer and a sink, once a number is taken
 unfoldable pub numberTaken : Number → List ℕ × Sink → List ℕ × Sink

@@ -3,3 +3,4 @@ pub mod groups;
 pub mod handle_lists;
 pub mod sink;
 pub mod tally;
+pub mod word;

@@ -1,4 +1,4 @@
-// Where numbers go: into a column, into a dump that is written out, or into a digest.
+// Where numbers go: into a column, into a dump that is written out, into a digest, or into words for a host.
 ghost use Prim.Native.Nat.{ℕ};
 ghost use mathlib.Core.List.{List, [], _∷_};
 ghost use mathlib.Core.Path.{_≡_};
@@ -7,17 +7,19 @@ ghost use Rattle.answer.specs.Digests.{addNumber};
 ghost use Rattle.answer.specs.Put.{put, putInteger};
 ghost use Rattle.answer_numbers.specs.declared.sink.Sink.{Sink};
 ghost use Rattle.answer_numbers.specs.Claims.{NumberClaims};
-ghost use Rattle.answer_numbers.specs.Numbers.{plain, signed, flag, raised, separated, sinkFrom, sinkAfter, textTaken, numbersTaken};
+ghost use Rattle.answer_numbers.specs.Numbers.{plain, signed, flag, raised, separated, sinkFrom, sinkAfter, textTaken, numbersTaken, wordTaken};
+use crate::word::put_word;
 use answer::digest::Digest;
 use answer::put::put_byte;
 use answer::put::put_i32;
 use answer::put::put_u64;
 
-// A column writes a signed number with its sign; the other two add 2^31 to it.
+// A column writes a signed number with its sign; the others add 2^31 to it. A word is eight bytes, and words have nothing between them.
 pub enum SinkKind {
     Column,
     Dump,
     Digest,
+    Words,
 }
 
 // The place in the text after the last number, and the digest of the numbers so far.
@@ -94,6 +96,14 @@ fn add_number(sink: Sink, n: u64) -> Sink
     after(sink, sink.at, digest.add(n))
 }
 
+fn add_word(out: &mut [u8], sink: Sink, n: u64) -> Sink
+    ensures { λ r. ⌜ _≡_ {A = List ℕ × Sink} (now (out .exit), r) (wordTaken n (now (out .entry), sink)) ⌝ }
+{
+    let digest = sink.digest;
+    let end = put_word(out, sink.at, n);
+    after(sink, end, digest)
+}
+
 pub fn take_plain(out: &mut [u8], sink: Sink, n: u64) -> Sink
     ensures { λ r. ⌜ _≡_ {A = List ℕ × Sink} (now (out .exit), r) (numbersTaken (plain n ∷ []) (now (out .entry), sink)) ⌝ }
 {
@@ -102,6 +112,7 @@ pub fn take_plain(out: &mut [u8], sink: Sink, n: u64) -> Sink
         SinkKind::Column => put_plain(out, sink, n),
         SinkKind::Dump => put_plain(out, sink, n),
         SinkKind::Digest => add_number(sink, n),
+        SinkKind::Words => add_word(out, sink, n),
     }
 }
 
@@ -113,6 +124,7 @@ pub fn take_signed(out: &mut [u8], sink: Sink, n: i32) -> Sink
         SinkKind::Column => put_signed(out, sink, n),
         SinkKind::Dump => put_plain(out, sink, raise(n)),
         SinkKind::Digest => add_number(sink, raise(n)),
+        SinkKind::Words => add_word(out, sink, raise(n)),
     }
 }
 

@@ -77,7 +77,7 @@ fn take_delivery(out: &mut [u8], sink: Sink, delivery: InputDelivery) -> Sink
     take_flag(out, next, delivery.observed)
 }
 
-fn take_deliveries(out: &mut [u8], sink: Sink, deliveries: Deliveries) -> Sink
+pub fn take_deliveries(out: &mut [u8], sink: Sink, deliveries: Deliveries) -> Sink
     ensures { λ r. ⌜ _≡_ {A = List ℕ × Sink} (now (out .exit), r) (numbersTaken (deliveriesNumbers deliveries) (now (out .entry), sink)) ⌝ }
 {
     let n = count_deliveries(deliveries);

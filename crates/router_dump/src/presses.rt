@@ -49,7 +49,7 @@ fn take_key(out: &mut [u8], sink: Sink, key: BindingKey) -> Sink
     }
 }
 
-fn take_press(out: &mut [u8], sink: Sink, press: Binding) -> Sink
+pub fn take_press(out: &mut [u8], sink: Sink, press: Binding) -> Sink
     ensures { λ r. ⌜ _≡_ {A = List ℕ × Sink} (now (out .exit), r) (numbersTaken (pressNumbers press) (now (out .entry), sink)) ⌝ }
 {
     let key = press.key;

@@ -3,7 +3,8 @@ use mathlib.Core.Path.{ap, _∙_}
 use borrow.Author.Needs.{needs}
 use Rattle.answer_columns.specs.Pieces.{putAll}
 use Rattle.answer_more.specs.More.{moreOf}
-use Rattle.answer_more.specs.Place.{moreTaken}
+use Rattle.answer_numbers.specs.declared.sink.SinkKind.the-variants.{Column}
+use Rattle.answer_more.specs.Place.{morePlaced}
 use Rattle.answer_line.specs.Named.{handleFor, namedPieces}
 use Rattle.answer_line.proofs.line.put_answer.Statement.{statement}
 use Rattle.answer_line.proofs.line.put_answer.Tie as tie
@@ -26,7 +27,7 @@ same-length c = search needs
 returns : tie.Need-returns
 returns c =
     let a = c .before .before .before .before .before .before .before .before .before .before .before .before .before .before .before .before .before .before .args in
-    c .before .before .put-more .ensures ∙ ap (moreTaken (moreOf (a .call) (a .answer) (a .counter)))
+    c .before .before .put-more .ensures ∙ ap (morePlaced Column (moreOf (a .call) (a .answer) (a .counter)))
     ((rw (c .before .before .before .before .before .before .before .named-handle .ensures) at (c .before .before .before .before .before .before .put-named .ensures)) ∙ ap (putAll (namedPieces (handleFor (a .call) (a .answer)))) (c .before .before .before .before .before .before .before .before .before .before .before .put-columns .ensures))
 
 pub put-answer-spec : {M : Type 1} → statement M

@@ -1,6 +1,5 @@
 -- `put_closing` meets its contract: each call takes its own numbers.
 use borrow.Author.Needs.{needs}
-use Rattle.answer_numbers.specs.declared.sink.SinkKind.the-variants.{Column}
 use Rattle.answer_more.proofs.PlaceLaws.{ended}
 use Rattle.answer_more.proofs.closing.put_closing.Statement.{statement}
 use Rattle.answer_more.proofs.closing.put_closing.Tie as tie
@@ -24,13 +23,13 @@ same-length : tie.Need-same-length
 same-length c = search needs
 
 returns : tie.Need-returns
-returns c = rw (c .before .before .before .before .enum-told .given .1) (ended Column _ _ _ (c .before .before .before .before .before .before .sink-from .ensures) (c .before .before .take-closed .ensures))
+returns c = rw (c .before .before .before .before .enum-told .given .1) (ended _ _ _ _ (c .before .before .before .before .before .before .sink-from .ensures) (c .before .before .take-closed .ensures))
 
 same-length-2 : tie.Need-same-length-2
 same-length-2 c = search needs
 
 returns-2 : tie.Need-returns-2
-returns-2 c = rw (c .before .before .before .before .enum-told2 .given .1) (ended Column _ _ _ (c .before .before .before .before .before .before .sink-from .ensures) (c .before .before .take-shutdown .ensures))
+returns-2 c = rw (c .before .before .before .before .enum-told2 .given .1) (ended _ _ _ _ (c .before .before .before .before .before .before .sink-from .ensures) (c .before .before .take-shutdown .ensures))
 
 pub put-closing-spec : {M : Type 1} → statement M
 put-closing-spec =

@@ -8,15 +8,15 @@ use Rattle.answer_more.proofs.more.put_more.Tie as tie
 is-accepted-requires : tie.Need-is-accepted-requires
 is-accepted-requires c κs = search needs
 
-put-byte-requires : tie.Need-put-byte-requires
-put-byte-requires c κs = search needs
+put-none-requires : tie.Need-put-none-requires
+put-none-requires c κs = search needs
 
 same-length : tie.Need-same-length
 same-length c = search needs
 
 returns : tie.Need-returns
 unfolding moreOf
-returns c = rw (sym (c .before .before .before .before .before .is-accepted .ensures), c .before .before .before .before .if1 .left) (c .before .before .put-byte .ensures)
+returns c = rw (sym (c .before .before .before .before .before .is-accepted .ensures), c .before .before .before .before .if1 .left) (c .before .before .put-none .ensures)
 
 enum-told : tie.Need-enum-told
 enum-told c = search needs
@@ -33,20 +33,20 @@ put-state-requires c κs = search needs
 enum-told-3 : tie.Need-enum-told-3
 enum-told-3 c = search needs
 
-put-byte-requires-2 : tie.Need-put-byte-requires-2
-put-byte-requires-2 c κs = search needs
+put-none-requires-2 : tie.Need-put-none-requires-2
+put-none-requires-2 c κs = search needs
 
 enum-told-4 : tie.Need-enum-told-4
 enum-told-4 c = search needs
 
-put-byte-requires-3 : tie.Need-put-byte-requires-3
-put-byte-requires-3 c κs = search needs
+put-none-requires-3 : tie.Need-put-none-requires-3
+put-none-requires-3 c κs = search needs
 
 enum-told-5 : tie.Need-enum-told-5
 enum-told-5 c = search needs
 
-put-byte-requires-4 : tie.Need-put-byte-requires-4
-put-byte-requires-4 c κs = search needs
+put-none-requires-4 : tie.Need-put-none-requires-4
+put-none-requires-4 c κs = search needs
 
 enum-known-call : tie.Need-enum-known-call
 enum-known-call c = search needs
@@ -85,21 +85,21 @@ same-length-4 c = search needs
 
 returns-4 : tie.Need-returns-4
 unfolding moreOf
-returns-4 c = rw (sym (c .before .before .before .before .before .before .before .is-accepted .ensures), c .before .before .before .before .before .before .if1 .taken, c .before .before .before .before .enum-told3 .given .1) (c .before .before .put-byte2 .ensures)
+returns-4 c = rw (sym (c .before .before .before .before .before .before .before .is-accepted .ensures), c .before .before .before .before .before .before .if1 .taken, c .before .before .before .before .enum-told3 .given .1) (c .before .before .put-none2 .ensures)
 
 same-length-5 : tie.Need-same-length-5
 same-length-5 c = search needs
 
 returns-5 : tie.Need-returns-5
 unfolding moreOf
-returns-5 c = rw (sym (c .before .before .before .before .before .before .before .is-accepted .ensures), c .before .before .before .before .before .before .if1 .taken, c .before .before .before .before .enum-told4 .given .1) (c .before .before .put-byte3 .ensures)
+returns-5 c = rw (sym (c .before .before .before .before .before .before .before .is-accepted .ensures), c .before .before .before .before .before .before .if1 .taken, c .before .before .before .before .enum-told4 .given .1) (c .before .before .put-none3 .ensures)
 
 same-length-6 : tie.Need-same-length-6
 same-length-6 c = search needs
 
 returns-6 : tie.Need-returns-6
 unfolding moreOf
-returns-6 c = rw (sym (c .before .before .before .before .before .before .before .is-accepted .ensures), c .before .before .before .before .before .before .if1 .taken, c .before .before .before .before .enum-told5 .given .1) (c .before .before .put-byte4 .ensures)
+returns-6 c = rw (sym (c .before .before .before .before .before .before .before .is-accepted .ensures), c .before .before .before .before .before .before .if1 .taken, c .before .before .before .before .enum-told5 .given .1) (c .before .before .put-none4 .ensures)
 
 same-length-7 : tie.Need-same-length-7
 same-length-7 c = search needs
@@ -127,7 +127,7 @@ put-more-spec =
     tie.close
     (tie.spec
     is-accepted-requires
-    put-byte-requires
+    put-none-requires
     same-length
     returns
     enum-told
@@ -135,11 +135,11 @@ put-more-spec =
     enum-told-2
     put-state-requires
     enum-told-3
-    put-byte-requires-2
+    put-none-requires-2
     enum-told-4
-    put-byte-requires-3
+    put-none-requires-3
     enum-told-5
-    put-byte-requires-4
+    put-none-requires-4
     enum-known-call
     put-closing-requires
     enum-known-call-2

@@ -12,14 +12,14 @@ put-event-requires c κs = search needs
 enum-told-2 : tie.Need-enum-told-2
 enum-told-2 c = search needs
 
-put-byte-requires : tie.Need-put-byte-requires
-put-byte-requires c κs = search needs
+put-none-requires : tie.Need-put-none-requires
+put-none-requires c κs = search needs
 
 enum-told-3 : tie.Need-enum-told-3
 enum-told-3 c = search needs
 
-put-byte-requires-2 : tie.Need-put-byte-requires-2
-put-byte-requires-2 c κs = search needs
+put-none-requires-2 : tie.Need-put-none-requires-2
+put-none-requires-2 c κs = search needs
 
 same-length : tie.Need-same-length
 same-length c = search needs
@@ -31,13 +31,13 @@ same-length-2 : tie.Need-same-length-2
 same-length-2 c = search needs
 
 returns-2 : tie.Need-returns-2
-returns-2 c = rw (c .before .before .before .before .enum-told2 .given .1) (c .before .before .put-byte .ensures)
+returns-2 c = rw (c .before .before .before .before .enum-told2 .given .1) (c .before .before .put-none .ensures)
 
 same-length-3 : tie.Need-same-length-3
 same-length-3 c = search needs
 
 returns-3 : tie.Need-returns-3
-returns-3 c = rw (c .before .before .before .before .enum-told3 .given .1) (c .before .before .put-byte2 .ensures)
+returns-3 c = rw (c .before .before .before .before .enum-told3 .given .1) (c .before .before .put-none2 .ensures)
 
 pub put-routed-spec : {M : Type 1} → statement M
 put-routed-spec =
@@ -46,9 +46,9 @@ put-routed-spec =
     enum-told
     put-event-requires
     enum-told-2
-    put-byte-requires
+    put-none-requires
     enum-told-3
-    put-byte-requires-2
+    put-none-requires-2
     same-length
     returns
     same-length-2

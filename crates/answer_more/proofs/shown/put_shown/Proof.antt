@@ -1,6 +1,5 @@
 -- `put_shown` meets its contract: each case takes its own numbers.
 use borrow.Author.Needs.{needs}
-use Rattle.answer_numbers.specs.declared.sink.SinkKind.the-variants.{Column}
 use Rattle.answer_more.proofs.PlaceLaws.{ended}
 use Rattle.answer_more.proofs.shown.put_shown.Statement.{statement}
 use Rattle.answer_more.proofs.shown.put_shown.Tie as tie
@@ -11,14 +10,14 @@ sink-from-requires c κs = search needs
 enum-told : tie.Need-enum-told
 enum-told c = search needs
 
-put-byte-requires : tie.Need-put-byte-requires
-put-byte-requires c κs = search needs
+put-none-requires : tie.Need-put-none-requires
+put-none-requires c κs = search needs
 
 enum-told-2 : tie.Need-enum-told-2
 enum-told-2 c = search needs
 
-put-byte-requires-2 : tie.Need-put-byte-requires-2
-put-byte-requires-2 c κs = search needs
+put-none-requires-2 : tie.Need-put-none-requires-2
+put-none-requires-2 c κs = search needs
 
 enum-known-shown : tie.Need-enum-known-shown
 enum-known-shown c = search needs
@@ -84,73 +83,73 @@ same-length : tie.Need-same-length
 same-length c = search needs
 
 returns : tie.Need-returns
-returns c = rw (c .before .before .before .before .enum-told .given .1) (c .before .before .put-byte .ensures)
+returns c = rw (c .before .before .before .before .enum-told .given .1) (c .before .before .put-none .ensures)
 
 same-length-2 : tie.Need-same-length-2
 same-length-2 c = search needs
 
 returns-2 : tie.Need-returns-2
-returns-2 c = rw (c .before .before .before .before .enum-told2 .given .1) (c .before .before .put-byte2 .ensures)
+returns-2 c = rw (c .before .before .before .before .enum-told2 .given .1) (c .before .before .put-none2 .ensures)
 
 same-length-3 : tie.Need-same-length-3
 same-length-3 c = search needs
 
 returns-3 : tie.Need-returns-3
-returns-3 c = rw (c .before .before .before .before .before .shown .given .1) (ended Column _ _ _ (c .before .before .before .before .before .before .before .sink-from .ensures) (c .before .before .take-metrics .ensures))
+returns-3 c = rw (c .before .before .before .before .before .shown .given .1) (ended _ _ _ _ (c .before .before .before .before .before .before .before .sink-from .ensures) (c .before .before .take-metrics .ensures))
 
 same-length-4 : tie.Need-same-length-4
 same-length-4 c = search needs
 
 returns-4 : tie.Need-returns-4
-returns-4 c = rw (c .before .before .before .before .before .shown2 .given .1) (ended Column _ _ _ (c .before .before .before .before .before .before .before .sink-from .ensures) (c .before .before .take-input-state .ensures))
+returns-4 c = rw (c .before .before .before .before .before .shown2 .given .1) (ended _ _ _ _ (c .before .before .before .before .before .before .before .sink-from .ensures) (c .before .before .take-input-state .ensures))
 
 same-length-5 : tie.Need-same-length-5
 same-length-5 c = search needs
 
 returns-5 : tie.Need-returns-5
-returns-5 c = rw (c .before .before .before .before .before .before .shown3 .given .1) (ended Column _ _ _ (c .before .before .before .before .before .before .before .before .sink-from .ensures) (c .before .before .take-captures-of .ensures))
+returns-5 c = rw (c .before .before .before .before .before .before .shown3 .given .1) (ended _ _ _ _ (c .before .before .before .before .before .before .before .before .sink-from .ensures) (c .before .before .take-captures-of .ensures))
 
 same-length-6 : tie.Need-same-length-6
 same-length-6 c = search needs
 
 returns-6 : tie.Need-returns-6
-returns-6 c = rw (c .before .before .before .before .before .shown4 .given .1) (ended Column _ _ _ (c .before .before .before .before .before .before .before .sink-from .ensures) (c .before .before .take-descriptor .ensures))
+returns-6 c = rw (c .before .before .before .before .before .shown4 .given .1) (ended _ _ _ _ (c .before .before .before .before .before .before .before .sink-from .ensures) (c .before .before .take-descriptor .ensures))
 
 same-length-7 : tie.Need-same-length-7
 same-length-7 c = search needs
 
 returns-7 : tie.Need-returns-7
-returns-7 c = rw (c .before .before .before .before .before .before .before .shown5 .given .1) (ended Column _ _ _ (c .before .before .before .before .before .before .before .before .before .sink-from .ensures) (c .before .before .take-layers-of .ensures))
+returns-7 c = rw (c .before .before .before .before .before .before .before .shown5 .given .1) (ended _ _ _ _ (c .before .before .before .before .before .before .before .before .before .sink-from .ensures) (c .before .before .take-layers-of .ensures))
 
 same-length-8 : tie.Need-same-length-8
 same-length-8 c = search needs
 
 returns-8 : tie.Need-returns-8
-returns-8 c = rw (c .before .before .before .before .before .enum-told3 .given .1) (ended Column _ _ _ (c .before .before .before .before .before .before .before .sink-from .ensures) (c .before .before .take-traces .ensures))
+returns-8 c = rw (c .before .before .before .before .before .enum-told3 .given .1) (ended _ _ _ _ (c .before .before .before .before .before .before .before .sink-from .ensures) (c .before .before .take-traces .ensures))
 
 same-length-9 : tie.Need-same-length-9
 same-length-9 c = search needs
 
 returns-9 : tie.Need-returns-9
-returns-9 c = rw (c .before .before .before .before .before .shown6 .given .1) (ended Column _ _ _ (c .before .before .before .before .before .before .before .sink-from .ensures) (c .before .before .take-shown-counts .ensures))
+returns-9 c = rw (c .before .before .before .before .before .shown6 .given .1) (ended _ _ _ _ (c .before .before .before .before .before .before .before .sink-from .ensures) (c .before .before .take-shown-counts .ensures))
 
 same-length-10 : tie.Need-same-length-10
 same-length-10 c = search needs
 
 returns-10 : tie.Need-returns-10
-returns-10 c = rw (c .before .before .before .before .before .shown7 .given .1) (ended Column _ _ _ (c .before .before .before .before .before .before .before .sink-from .ensures) (c .before .before .take-plain .ensures))
+returns-10 c = rw (c .before .before .before .before .before .shown7 .given .1) (ended _ _ _ _ (c .before .before .before .before .before .before .before .sink-from .ensures) (c .before .before .take-plain .ensures))
 
 same-length-11 : tie.Need-same-length-11
 same-length-11 c = search needs
 
 returns-11 : tie.Need-returns-11
-returns-11 c = rw (c .before .before .before .before .enum-told4 .given .1) (ended Column _ _ _ (c .before .before .before .before .before .before .sink-from .ensures) (c .before .before .take-hit-numbers .ensures))
+returns-11 c = rw (c .before .before .before .before .enum-told4 .given .1) (ended _ _ _ _ (c .before .before .before .before .before .before .sink-from .ensures) (c .before .before .take-hit-numbers .ensures))
 
 same-length-12 : tie.Need-same-length-12
 same-length-12 c = search needs
 
 returns-12 : tie.Need-returns-12
-returns-12 c = rw (c .before .before .before .before .before .shown8 .given .1) (ended Column _ _ _ (c .before .before .before .before .before .before .before .sink-from .ensures) (c .before .before .take-local .ensures))
+returns-12 c = rw (c .before .before .before .before .before .shown8 .given .1) (ended _ _ _ _ (c .before .before .before .before .before .before .before .sink-from .ensures) (c .before .before .take-local .ensures))
 
 pub put-shown-spec : {M : Type 1} → statement M
 put-shown-spec =
@@ -158,9 +157,9 @@ put-shown-spec =
     (tie.spec
     sink-from-requires
     enum-told
-    put-byte-requires
+    put-none-requires
     enum-told-2
-    put-byte-requires-2
+    put-none-requires-2
     enum-known-shown
     take-metrics-requires
     enum-known-shown-2
