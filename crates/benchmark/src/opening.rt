@@ -93,9 +93,11 @@ pub fn open(panels: u64) -> Opened {
     };
     let start = CompositionRegistry::new(session, 1, limits());
     let first = create_window(start.registry);
-    let window = issued(first.handle);
+    let made = first.handle;
+    let window = issued(made);
     let second = create_view(first.registry, window);
-    let view = issued(second.handle);
+    let shown = second.handle;
+    let view = issued(shown);
     let registry = with_panels(second.registry, view, panels);
     let routing = PlatformInputRouter::new(128);
     let router = routing.router;
@@ -149,14 +151,15 @@ fn with_captured_view(
     opened: CompositionRegistry,
     window: GenerationalHandle,
 ) -> CompositionRegistry {
-    let second = create_view(opened, window);
-    let view = issued(second.handle);
-    let made = attach_surface(
-        second.registry,
+    let viewed = create_view(opened, window);
+    let shown = viewed.handle;
+    let view = issued(shown);
+    let attached = attach_surface(
+        viewed.registry,
         panel(view, SurfaceInputPolicy::Interactive),
     );
-    let surface = issued(made.handle);
-    captured(made.registry, surface)
+    let made = attached.handle;
+    captured(attached.registry, issued(made))
 }
 
 // 512 captures: 32 in each of 16 views. The first panel of the first view has its part.

@@ -32,7 +32,7 @@ pub fn add_routed(sum: u64, routed: Routed) -> u64 {
     wrapping_add_u64(released, consumer_number(consumer))
 }
 
-pub fn tally(registry: CompositionRegistry, router: PlatformInputRouter, sum: u64) -> Tally {
+pub fn tally_of(registry: CompositionRegistry, router: PlatformInputRouter, sum: u64) -> Tally {
     Tally {
         revision: registry.revision,
         presses: router.active_binding_count() as u64,

@@ -8,7 +8,7 @@ use crate::opening::issued;
 use crate::opening::panel;
 use crate::tally::Tally;
 use crate::tally::add_routed;
-use crate::tally::tally;
+use crate::tally::tally_of;
 use composition_close::close::close_surface;
 use composition_hits::stack::hit_test_stack;
 use composition_panels::panels::attach_surface;
@@ -32,7 +32,7 @@ pub fn route_turns(opened: Opened, gesture: Gesture, turns: u64) -> Tally {
         registry = routed.registry;
         router = routed.router;
     }
-    tally(registry, router, sum)
+    tally_of(registry, router, sum)
 }
 
 // A disconnect a turn, each on the same presses and captures; only the revision and the event's number are others.
@@ -49,7 +49,7 @@ pub fn disconnect_turns(opened: Opened, turns: u64) -> Tally {
         let routed = route(registry, router, event);
         sum = add_routed(sum, routed);
     }
-    tally(registry, router, sum)
+    tally_of(registry, router, sum)
 }
 
 // A hit test a turn. The revision is another each time, so that no turn can take over what an earlier one found.
@@ -72,7 +72,7 @@ pub fn hit_turns(opened: Opened, turns: u64) -> Tally {
         let hits = hit_test_stack(registry, view, point, &mut buffer, &mut refusal);
         sum = wrapping_add_u64(sum, hits.len() as u64);
     }
-    tally(registry, router, sum)
+    tally_of(registry, router, sum)
 }
 
 // A panel attached and closed, both in one turn.
@@ -85,12 +85,12 @@ pub fn close_turns(opened: Opened, turns: u64) -> Tally {
     let mut turn: u64 = 0;
     while turn < turns {
         turn += 1;
-        let made = attach_surface(registry, panel(view, SurfaceInputPolicy::Interactive));
-        let surface = issued(made.handle);
-        let closed = close_surface(made.registry, surface);
+        let attached = attach_surface(registry, panel(view, SurfaceInputPolicy::Interactive));
+        let made = attached.handle;
+        let closed = close_surface(attached.registry, issued(made));
         let report = closed.report;
         sum = wrapping_add_u64(sum, report.revision);
         registry = closed.registry;
     }
-    tally(registry, router, sum)
+    tally_of(registry, router, sum)
 }
