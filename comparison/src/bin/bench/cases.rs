@@ -23,7 +23,7 @@ pub struct Case {
     pub panels: u32,
     /// How many calls a turn makes.
     pub calls: u32,
-    /// The turns T of the shorter of the two runs.
+    /// The turns T of the shorter of the two runs of the port.
     pub turns: u64,
 }
 

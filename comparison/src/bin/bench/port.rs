@@ -1,9 +1,10 @@
 //! The port: its program is run with T and with 3T turns, and the times are subtracted.
 
 use std::process::Command;
-use std::time::{Duration, Instant};
+use std::time::Duration;
 
 use crate::cases::Case;
+use crate::cpu_time;
 use crate::tally::{Measured, Tally};
 
 const RUNS: u32 = 9;
@@ -16,9 +17,9 @@ fn number(word: Option<&str>) -> Result<u64, String> {
 fn run(case: &Case, command: &[String], turns: u64) -> Result<(Duration, Tally), String> {
     let mut program = Command::new(&command[0]);
     program.args(&command[1..]).arg(case.name).arg(turns.to_string());
-    let start = Instant::now();
+    let before = cpu_time::of_children();
     let output = program.output().map_err(|error| format!("{}: {error}", command[0]))?;
-    let elapsed = start.elapsed();
+    let elapsed = cpu_time::of_children() - before;
     if !output.status.success() {
         return Err(format!("the program ended with {}", output.status));
     }

@@ -1,18 +1,19 @@
 //! The unchanged Rust, called in this process.
 
 use std::hint::black_box;
-use std::time::{Duration, Instant};
+use std::time::Duration;
 
 use comparison::composition::access::set_revision;
 use comparison::platform_input::*;
 use comparison::*;
 
 use crate::cases::{Case, Kind};
+use crate::cpu_time;
 use crate::tally::{number_of, Measured, Tally};
 
 const RUNS: u32 = 9;
 /// How many states of a disconnect stand ready at a time.
-const BATCH: u64 = 20;
+const BATCH: u64 = 50;
 const DEVICE: InputDeviceId = InputDeviceId { value: 7, generation: 1 };
 
 struct Opened {
@@ -136,12 +137,12 @@ impl Opened {
 fn route_turns(case: &Case, turns: u64, phases: [PointerPhase; 2]) -> (Duration, Tally) {
     let mut opened = open(case.panels);
     let mut sum = 0u64;
-    let start = Instant::now();
+    let start = cpu_time::own();
     for turn in 1..=turns {
         let phase = phases[(turn % 2) as usize];
         sum = sum.wrapping_add(opened.route(opened.pointer(turn, 0, phase)));
     }
-    (start.elapsed(), opened.tally(sum))
+    (cpu_time::own() - start, opened.tally(sum))
 }
 
 fn disconnect_turns(case: &Case, turns: u64, prepare: fn(&mut Opened)) -> (Duration, Tally) {
@@ -158,12 +159,12 @@ fn disconnect_turns(case: &Case, turns: u64, prepare: fn(&mut Opened)) -> (Durat
             set_revision(&mut opened.registry, turn);
             ready.push(opened);
         }
-        let start = Instant::now();
+        let start = cpu_time::own();
         for (opened, turn) in ready.iter_mut().zip(batch) {
             let event = opened.event(turn + 129, PlatformInputPayload::DeviceDisconnected);
             sum = sum.wrapping_add(opened.route(event));
         }
-        elapsed += start.elapsed();
+        elapsed += cpu_time::own() - start;
     }
     set_revision(&mut full.registry, turns - 1);
     (elapsed, full.tally(sum))
@@ -172,12 +173,12 @@ fn disconnect_turns(case: &Case, turns: u64, prepare: fn(&mut Opened)) -> (Durat
 fn hit_turns(case: &Case, turns: u64) -> (Duration, Tally) {
     let mut opened = open(case.panels);
     let mut sum = 0u64;
-    let start = Instant::now();
+    let start = cpu_time::own();
     for _ in 0..turns {
         let hits = black_box(&opened.registry).hit_test_stack(opened.view, 0, 0).expect("hits");
         sum = sum.wrapping_add(2 * black_box(&hits).len() as u64);
     }
-    let elapsed = start.elapsed();
+    let elapsed = cpu_time::own() - start;
     set_revision(&mut opened.registry, turns - 1);
     (elapsed, opened.tally(sum))
 }
@@ -185,14 +186,14 @@ fn hit_turns(case: &Case, turns: u64) -> (Duration, Tally) {
 fn panel_turns(case: &Case, turns: u64) -> (Duration, Tally) {
     let mut opened = open(case.panels);
     let mut sum = 0u64;
-    let start = Instant::now();
+    let start = cpu_time::own();
     for _ in 0..turns {
         let descriptor = black_box(panel(opened.view, SurfaceInputPolicy::Interactive));
         let surface = opened.registry.attach_surface(descriptor).expect("panel");
         let report = opened.registry.close_surface(surface).expect("closed");
         sum = sum.wrapping_add(black_box(&report).revision);
     }
-    (start.elapsed(), opened.tally(sum))
+    (cpu_time::own() - start, opened.tally(sum))
 }
 
 fn run(case: &Case, turns: u64) -> (Duration, Tally) {
@@ -206,19 +207,18 @@ fn run(case: &Case, turns: u64) -> (Duration, Tally) {
     }
 }
 
-pub fn measure(case: &Case) -> Measured {
-    let lengths = [case.turns, 3 * case.turns];
-    let mut best = Duration::MAX;
-    let mut tallies = [Tally::default(); 2];
-    for _ in 0..RUNS {
-        for (i, turns) in lengths.into_iter().enumerate() {
-            let (elapsed, tally) = run(case, turns);
-            tallies[i] = tally;
-            if i == 1 {
-                best = best.min(elapsed);
-            }
-        }
+/// The turns of a run that is timed: many, as they are short; but each disconnect needs a state of its own.
+fn timed_turns(case: &Case) -> u64 {
+    match case.kind {
+        Kind::DisconnectPresses | Kind::DisconnectCaptures => 3 * case.turns,
+        Kind::Moves | Kind::Presses | Kind::HitTest | Kind::Panel => 50 * case.turns,
     }
-    let calls = lengths[1] * u64::from(case.calls);
+}
+
+pub fn measure(case: &Case) -> Measured {
+    let tallies = [case.turns, 3 * case.turns].map(|turns| run(case, turns).1);
+    let turns = timed_turns(case);
+    let best = (0..RUNS).map(|_| run(case, turns).0).min().unwrap_or_default();
+    let calls = turns * u64::from(case.calls);
     Measured { nanos: best.as_nanos() as f64 / calls as f64, tallies }
 }
