@@ -30,7 +30,7 @@ use Rattle.composition_arbitration.specs.Claims.{EndsWith, newTrace, Arb
 use Rattle.composition_arbitration.proofs.ClaimLaws as walk
 
 -- once all checks have passed, the revision is not the last
-room : (r : CompositionRegistry) (view : GenerationalHandle) (own : Hits) (shortcut : Outcome) → arbitrateRefusal r view own shortcut ≡ Accepted → eqb (r .revision) last ≡ false
+pub room : (r : CompositionRegistry) (view : GenerationalHandle) (own : Hits) (shortcut : Outcome) → arbitrateRefusal r view own shortcut ≡ Accepted → eqb (r .revision) last ≡ false
 room r view own shortcut h =
     if-accepted (eqb (r .revision) last) RevisionExhausted
     (then-last shortcut _ (then-last (hitsRefusal own) _ (then-last (viewRefusal (r .views) view) _ (then-last (damageRefusal r) _ h))))

@@ -4,3 +4,4 @@ pub mod TraceLaws
 pub mod WalkLaws
 pub mod ClaimLaws
 pub mod CallClaimLaws
+pub mod DecisionLaws

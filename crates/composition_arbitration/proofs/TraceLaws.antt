@@ -1,6 +1,6 @@
 -- The copy of the traces that stay: those from one place on and before another, one more a turn.
 use Prim.Native.Nat.{ℕ, _+_, _-_, _≤_, _<_}
-use mathlib.Core.Path.{_≡_, sym, ap, _∙_}
+use mathlib.Core.Path.{_≡_, sym}
 use mathlib.Core.List.{List, [], _∷_, _++_}
 use native.Mathlib.Numerals.{add-one}
 use native.Mathlib.Omega.{arith}
@@ -10,7 +10,7 @@ use lib.Seq.{take-suc, take-length, getD-drop}
 use lib.Dec.{ltb}
 use Rattle.lists.specs.Tables.{entriesOf, packed, pushed}
 use Rattle.lists.proofs.ListLaws.{by-test}
-use Rattle.lists.proofs.TableLaws.{len-packed, push-packed}
+use Rattle.lists.proofs.TableLaws.{push-packed}
 use Rattle.composition_state.specs.declared.trace.CompositionTrace.{CompositionTrace}
 use Rattle.composition_state.specs.declared.trace.Traces.{Traces}
 use Rattle.composition_state.specs.Traces.{traces}
@@ -39,9 +39,6 @@ part-all : {E : Type 0} (l : List E) (from : ℕ) → part l from (length l) ≡
 part-all l from = rw (sym (length-drop from l)) (take-length (drop from l))
 
 module _ (l : List CompositionTrace) (next : Traces) (from i : ℕ) (e : next ≡ packed traces (part l from i)) where
-  pub turn-room : i ≤ length l → i - from < 32 → next .len < 32
-  turn-room h k = omega (arith, ap (λ (x : Traces). x .len) e ∙ len-packed traces (part l from i), part-long l from i h)
-
   pub turn : (d : CompositionTrace) → from ≤ i → i < length l → i - from < 32 → pushed traces next (getD l i d) ≡ packed traces (part l from (i + 1))
   turn d f h k =
       rw (e, part-more l from i d f h) (push-packed traces (part l from i) (getD l i d) (omega (arith, part-long l from i (omega arith))))

@@ -14,10 +14,18 @@ use Rattle.handles.specs.declared.handle.GenerationalHandle.{GenerationalHandle
 use Rattle.handles.specs.declared.handle.OptionalHandle.the-variants.{None, Some}
 use Rattle.composition_state.specs.declared.trace.InputDelivery.{InputDelivery}
 use Rattle.composition_state.specs.declared.trace.Deliveries.{Deliveries}
+use Rattle.composition_state.specs.declared.layers.Layers.{Layers}
+use Rattle.composition_state.specs.declared.surface.SurfaceRecord.{SurfaceRecord}
+use Rattle.composition_state.specs.declared.surface.SurfaceTable.{SurfaceTable}
+use Rattle.composition_state.specs.Layers.{layers, recordsOf}
+use Rattle.composition_state.specs.Surfaces.{noSurface}
 use Rattle.composition_state.specs.Traces.{deliveries}
+use Rattle.composition_state.proofs.LayerLaws.{record-here}
+use Rattle.composition_arbitration.specs.declared.targets.Choice.{Choice}
 use Rattle.composition_arbitration.specs.declared.walk.Verdict.{Verdict}
 use Rattle.composition_arbitration.specs.declared.walk.Walked.{Walked}
-use Rattle.composition_arbitration.specs.Layers.{delivers, consumes, deliveryFrom, delivered, untilConsumed, walked, deliveriesOf, consumerOf, walkOf}
+use Rattle.composition_arbitration.specs.Targets.{isTargeted}
+use Rattle.composition_arbitration.specs.Layers.{verdict, verdictAt, delivers, consumes, deliveryFrom, delivered, untilConsumed, walked, deliveriesOf, consumerOf, walkOf}
 
 module _ (at : GenerationalHandle → Verdict) where
   pub deliveries-append : (a b : List GenerationalHandle) → deliveriesOf at (a ++ b) ≡ deliveriesOf at a ++ deliveriesOf at b
@@ -118,3 +126,10 @@ module _ (at : GenerationalHandle → Verdict) where
   done l out zero w z =
       rw (w .told, w .consumer, nothing-left, none-delivered, append-nil) (ap (λ (o : Deliveries). record { deliveries = o; «consumed_by» = None }) (w .whole))
   done l out (suc k) w z = absurd (omega arith)
+
+-- the verdict of a layer, by the record that stands in its place
+pub verdict-here : (surfaces : SurfaceTable) (choice : Choice) (hits : List GenerationalHandle) (t : Layers) (i : ℕ) (d : GenerationalHandle) → i < length (entriesOf layers t) → length (entriesOf layers t) ≤ 16
+    → (found : List SurfaceRecord) → found ≡ recordsOf (surfaces .records) t
+    → verdict (getD found i noSurface .descriptor .input) (isTargeted choice hits (getD (t .items) i d) (getD found i noSurface .descriptor .«accepts_text»)) ≡ verdictAt surfaces choice hits (getD (t .items) i d)
+unfolding verdictAt
+verdict-here surfaces choice hits t i d within whole found e = rw (e, record-here (surfaces .records) t i d within whole)

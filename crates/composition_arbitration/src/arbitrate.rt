@@ -1,18 +1,20 @@
 // One event, arbitrated: a system shortcut's winner alone gets it, and else the walk decides.
 ghost use mathlib.Core.Path.{_≡_};
-ghost use Rattle.composition_arbitration.specs.Arbitration.{isStack, ownHits, hitsRefusal, resolution, alone, orAlone, walkIn, unresolved, nextRevision, arbitrateRefusal, traceOf, withTrace, answeredWith, concluded, arbitrated};
+ghost use Rattle.composition_state.specs.Registry.{withTraces, withRevision};
+ghost use Rattle.composition_arbitration.specs.Arbitration.{isStack, ownHits, hitsRefusal, resolution, alone, orAlone, walkIn, unresolved, nextRevision, traceOf, arbitrated};
+ghost use Rattle.composition_arbitration.specs.Decisions.{refusalAfter, decided, resultOf};
 use crate::walk::Walked;
 use composition_shortcuts::resolve::Resolved;
 use composition_shortcuts::resolve::resolve_system_shortcut;
 use composition_state::error::CompositionError;
 use composition_state::error::Outcome;
-use composition_state::registry::Changed;
 use composition_state::registry::CompositionRegistry;
 use composition_state::trace::ArbitrationEvent;
 use composition_state::trace::CompositionTrace;
 use composition_state::trace::Deliveries;
 use composition_state::trace::Hits;
 use composition_state::trace::InputDelivery;
+use composition_state::trace::Traces;
 use handles::handle::GenerationalHandle;
 use handles::handle::OptionalHandle;
 
@@ -139,23 +141,21 @@ fn next_revision(revision: u64) -> u64
 
 // 21 comes before any change here, unlike in the other calls.
 fn arbitrate_refusal(
+    damage: Outcome,
     registry: CompositionRegistry,
     view: GenerationalHandle,
     hits: Hits,
     resolved: Outcome,
 ) -> Outcome
-    ensures { λ r. ⌜ r ≡ arbitrateRefusal registry view hits resolved ⌝ }
+    ensures { λ r. ⌜ r ≡ refusalAfter damage registry view hits resolved ⌝ }
 {
     let views = registry.views;
     let exhausted = composition_state::error::refuse_if(
         registry.revision == 18446744073709551615,
         CompositionError::RevisionExhausted,
     );
-    registry.damage().then(
-        views
-            .refusal(view)
-            .then(hits_refusal(hits).then(resolved.then(exhausted))),
-    )
+    let unknown = views.refusal(view);
+    damage.then(unknown.then(hits_refusal(hits).then(resolved.then(exhausted))))
 }
 
 fn trace_of(
@@ -179,61 +179,57 @@ fn trace_of(
     }
 }
 
-// The registry with one trace more.
-fn record_trace(registry: CompositionRegistry, trace: CompositionTrace) -> CompositionRegistry
-    ensures { λ r. ⌜ r ≡ withTrace trace registry ⌝ }
-{
-    let limits = registry.limits;
-    let traces = registry.traces;
-    registry.with_traces(crate::trace::push_trace(traces, limits.max_trace_entries, trace))
+// What is decided of an event before anything is written: its refusal, and the trace of it.
+pub struct Decision {
+    pub outcome: Outcome,
+    pub trace: CompositionTrace,
 }
 
-fn answer(changed: Changed, walked: Walked) -> Arbitrated
-    ensures { λ r. ⌜ r ≡ answeredWith walked changed ⌝ }
-{
-    let outcome = changed.outcome;
-    let registry = changed.registry;
-    let deliveries = walked.deliveries;
-    let consumed_by = walked.consumed_by;
-    if outcome.is_accepted() {
-        return Arbitrated {
-            outcome,
-            result: ArbitrationResult {
-                revision: registry.revision,
-                deliveries,
-                consumed_by,
-            },
-            registry,
-        };
-    }
-    Arbitrated {
-        outcome,
-        result: ArbitrationResult {
-            revision: 0,
-            deliveries: Deliveries::new(),
-            consumed_by: OptionalHandle::None,
-        },
-        registry,
-    }
-}
-
-// The answer, once it is known who gets the event.
-fn conclude(
+// Who gets the event, and whether the call is refused, once the registry is tested for damage.
+pub fn decide(
+    damage: Outcome,
     registry: CompositionRegistry,
     view: GenerationalHandle,
     event: ArbitrationEvent,
-    own: Hits,
-    shortcut: Outcome,
-    walked: Walked,
-) -> Arbitrated
-    ensures { λ r. ⌜ r ≡ concluded registry view event own shortcut walked ⌝ }
+    hits: Hits,
+) -> Decision
+    ensures { λ r. ⌜ r ≡ decided damage registry view event hits ⌝ }
 {
+    let own = own_hits(event, hits);
+    let resolved = resolve(registry, view, event);
+    let shortcut = resolved.outcome;
+    let winner = resolved.surface;
+    let walked = or_alone(winner, walk_in(registry, view, event, own));
+    let outcome = arbitrate_refusal(damage, registry, view, own, shortcut);
     let trace = trace_of(next_revision(registry.revision), view, event, own, walked);
-    let refusal = arbitrate_refusal(registry, view, own, shortcut);
-    answer(
-        registry.settle(refusal, record_trace(registry, trace)),
-        walked,
-    )
+    Decision { outcome, trace }
+}
+
+// The answer of an accepted arbitration.
+pub fn result_of(trace: CompositionTrace) -> ArbitrationResult
+    ensures { λ r. ⌜ r ≡ resultOf trace ⌝ }
+{
+    let deliveries = trace.deliveries;
+    let consumed_by = trace.consumed_by;
+    ArbitrationResult {
+        revision: trace.revision,
+        deliveries,
+        consumed_by,
+    }
+}
+
+// The registry with other traces and another revision.
+pub fn with_traces_at(
+    registry: CompositionRegistry,
+    traces: Traces,
+    revision: u64,
+) -> CompositionRegistry
+    ensures { λ r. ⌜ r ≡ withRevision revision (withTraces traces registry) ⌝ }
+{
+    let mut next = registry;
+    next.traces = traces;
+    next.revision = revision;
+    next
 }
 
 // The hits of the two stack events stand beside the event.
@@ -245,10 +241,27 @@ pub fn arbitrate(
 ) -> Arbitrated
     ensures { λ r. ⌜ r ≡ arbitrated registry view event hits ⌝ }
 {
-    let own = own_hits(event, hits);
-    let resolved = resolve(registry, view, event);
-    let outcome = resolved.outcome;
-    let winner = resolved.surface;
-    let walked = or_alone(winner, walk_in(registry, view, event, own));
-    conclude(registry, view, event, own, outcome, walked)
+    let decision = decide(registry.damage(), registry, view, event, hits);
+    let outcome = decision.outcome;
+    let trace = decision.trace;
+    if let Outcome::Refused(error) = outcome {
+        return Arbitrated {
+            outcome: Outcome::Refused(error),
+            result: ArbitrationResult {
+                revision: 0,
+                deliveries: Deliveries::new(),
+                consumed_by: OptionalHandle::None,
+            },
+            registry,
+        };
+    }
+    let limits = registry.limits;
+    let stored = registry.traces;
+    let traces = crate::trace::push_trace(stored, limits.max_trace_entries, trace);
+    let result = result_of(trace);
+    Arbitrated {
+        outcome,
+        result,
+        registry: with_traces_at(registry, traces, trace.revision),
+    }
 }

@@ -1,8 +1,8 @@
 // The trace of the last arbitrations.
 ghost use mathlib.Core.Path.{_≡_};
-ghost use Prim.Native.Nat.{_-_, _<_};
+ghost use Prim.Native.Nat.{_-_};
 ghost use lib.ListN.{length};
-ghost use Rattle.lists.specs.Tables.{entriesOf, pushed};
+ghost use Rattle.lists.specs.Tables.{entriesOf};
 ghost use Rattle.composition_state.specs.Traces.{traces as stateTraces};
 ghost use Rattle.composition_arbitration.specs.Trace.{keptBefore, traced};
 use composition_state::trace::CompositionTrace;
@@ -16,17 +16,6 @@ fn count(traces: Traces) -> usize
         return n;
     }
     32
-}
-
-fn push(traces: Traces, trace: CompositionTrace) -> Traces
-    requires { ⌜ traces .len < 32 ⌝ }
-    ensures { λ r. ⌜ r ≡ pushed stateTraces traces trace ⌝ }
-{
-    let at = traces.len;
-    let mut next = traces;
-    next.items[at] = trace;
-    next.len = at + 1;
-    next
 }
 
 // How many of the older traces stay beside a new one.
@@ -51,7 +40,8 @@ fn first_kept(n: usize, kept: usize) -> usize
     n - kept
 }
 
-// The traces with a new one at the end; the oldest drop out where the limit is passed.
+// The traces with a new one at the end; the oldest drop out where the limit is passed. Each is stored in its place, since a
+// table by value would be copied once for each entry.
 pub fn push_trace(traces: Traces, limit: u64, trace: CompositionTrace) -> Traces
     ensures { λ r. ⌜ r ≡ traced limit traces trace ⌝ }
 {
@@ -61,8 +51,13 @@ pub fn push_trace(traces: Traces, limit: u64, trace: CompositionTrace) -> Traces
     let mut i = from;
     while i < n {
         let old = traces.items[i];
-        next = push(next, old);
+        let at = next.len;
+        next.items[at] = old;
+        next.len = at + 1;
         i += 1;
     }
-    push(next, trace)
+    let end = next.len;
+    next.items[end] = trace;
+    next.len = end + 1;
+    next
 }

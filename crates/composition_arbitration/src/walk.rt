@@ -6,10 +6,12 @@ ghost use lib.ListN.{length};
 ghost use Rattle.lists.specs.Tables.{entriesOf, packed, pushed};
 ghost use Rattle.composition_state.specs.Layers.{layers as stateLayers};
 ghost use Rattle.composition_state.specs.Traces.{hits as stateHits, deliveries as stateDeliveries};
+ghost use Rattle.composition_arbitration.specs.Targets.{isTargeted};
 ghost use Rattle.composition_arbitration.specs.Layers.{verdict, delivers, consumes, observes, deliveryFrom, delivered, verdictAt, walkOf};
 use crate::targets::Choice;
 use composition_state::layers::Layers;
 use composition_state::surface::SurfaceInputPolicy;
+use composition_state::surface::SurfaceRecord;
 use composition_state::surface::SurfaceTable;
 use composition_state::trace::Deliveries;
 use composition_state::trace::Hits;
@@ -120,15 +122,16 @@ fn deliver(deliveries: Deliveries, surface: GenerationalHandle, verdict: Verdict
     deliveries
 }
 
-fn verdict_at(
-    surfaces: SurfaceTable,
+// The verdict of a layer, by the record of its panel.
+fn verdict_of(
+    record: SurfaceRecord,
     choice: Choice,
     hits: Hits,
     surface: GenerationalHandle,
 ) -> Verdict
-    ensures { λ r. ⌜ r ≡ verdictAt surfaces choice (entriesOf stateHits hits) surface ⌝ }
+    ensures { λ r. ⌜ r ≡ verdict («record» .descriptor .input) (isTargeted choice (entriesOf stateHits hits) surface («record» .descriptor .«accepts_text»)) ⌝ }
 {
-    let descriptor = surfaces.descriptor(surface);
+    let descriptor = record.descriptor;
     let input = descriptor.input;
     let is_targeted = crate::targets::is_targeted(choice, hits, surface, descriptor.accepts_text);
     verdict_for(input, is_targeted)
@@ -138,12 +141,14 @@ fn verdict_at(
 pub fn walk_layers(surfaces: SurfaceTable, choice: Choice, hits: Hits, layers: Layers) -> Walked
     ensures { λ r. ⌜ r ≡ walkOf (verdictAt surfaces choice (entriesOf stateHits hits)) (entriesOf stateLayers layers) ⌝ }
 {
+    let records = surfaces.records;
+    let found = layers.records_of(records);
     let mut deliveries = Deliveries::new();
     let mut left = layers.count();
     while 0 < left {
         left -= 1;
         let surface = layers.items[left];
-        let verdict = verdict_at(surfaces, choice, hits, surface);
+        let verdict = verdict_of(found[left], choice, hits, surface);
         deliveries = deliver(deliveries, surface, verdict);
         if verdict.is_consumed() {
             return Walked {

@@ -7,9 +7,19 @@ use native.Mathlib.Omega.{arith}
 use lib.ListN.{length, drop, getD, length-append, length-drop, length-reverse}
 use lib.Seq.{drop-length}
 use Rattle.lists.specs.Lists.{keep}
+use Rattle.lists.specs.Tables.{entriesOf}
 use Rattle.lists.proofs.ListLaws.{by-test, keep-append, back-more}
 use Rattle.handles.specs.declared.handle.GenerationalHandle.{GenerationalHandle}
+use Rattle.geometry.specs.declared.transform.Point.{Point}
+use Rattle.geometry.specs.Surface.{isHit}
+use Rattle.composition_state.specs.declared.layers.Layers.{Layers}
+use Rattle.composition_state.specs.declared.surface.SurfaceRecord.{SurfaceRecord}
+use Rattle.composition_state.specs.declared.surface.SurfaceTable.{SurfaceTable}
+use Rattle.composition_state.specs.Layers.{layers, recordsOf}
+use Rattle.composition_state.specs.Surfaces.{noSurface}
+use Rattle.composition_state.proofs.LayerLaws.{record-here}
 use Rattle.composition_hits.specs.Buffer.{numbersOf, numbersIf, over, written}
+use Rattle.composition_hits.specs.HitTest.{isLayerHit}
 use Rattle.composition_hits.proofs.BufferLaws.{over-more, written-none, length-written}
 
 numbers-append : (a b : List GenerationalHandle) → numbersOf (a ++ b) ≡ numbersOf a ++ numbersOf b
@@ -83,3 +93,10 @@ module _ (p : GenerationalHandle → Bool) where
   pub end-buffer : (l : List GenerationalHandle) (old buffer : List ℕ) (left place : ℕ) → Filling l old buffer left place → left ≤ 0 → buffer ≡ written old (found (reverse l))
   end-buffer l old buffer zero place f z = f .buffer-is
   end-buffer l old buffer (suc k) place f z = absurd (omega arith)
+
+-- whether a layer is hit, by the record that stands in its place
+pub hit-here : (surfaces : SurfaceTable) (p : Point) (t : Layers) (i : ℕ) (d : GenerationalHandle) → i < length (entriesOf layers t) → length (entriesOf layers t) ≤ 16
+    → (found : List SurfaceRecord) → found ≡ recordsOf (surfaces .records) t
+    → isHit (getD found i noSurface .descriptor .geometry) (p .«x_milli») (p .«y_milli») ≡ isLayerHit surfaces p (getD (t .items) i d)
+unfolding isLayerHit
+hit-here surfaces p t i d within whole found e = rw (e, record-here (surfaces .records) t i d within whole)

@@ -5,13 +5,15 @@ ghost use lib.ListN.{length};
 ghost use Rattle.lists.specs.Tables.{entriesOf};
 ghost use Rattle.composition_state.specs.Errors.{numberOf};
 ghost use Rattle.composition_state.specs.Layers.{layers as stateLayers};
+ghost use Rattle.geometry.specs.Surface.{isHit};
 ghost use Rattle.composition_hits.specs.Buffer.{written, numbersOf};
-ghost use Rattle.composition_hits.specs.HitTest.{isLayerHit, hitsAmong, layersOf, hitTestRefusal, foundNumbers, hitNumbers, hitTest, bufferAfter};
+ghost use Rattle.composition_hits.specs.HitTest.{hitsAmong, layersOf, hitTestRefusal, foundNumbers, hitNumbers, hitTest, bufferAfter};
 use composition_state::error::CompositionError;
 use composition_state::error::Outcome;
 use composition_state::error::number;
 use composition_state::layers::Layers;
 use composition_state::registry::CompositionRegistry;
+use composition_state::surface::SurfaceRecord;
 use composition_state::surface::SurfaceTable;
 use composition_state::view::ViewTable;
 use geometry::transform::Point;
@@ -23,10 +25,11 @@ pub struct HitTest {
     pub numbers: usize,
 }
 
-pub fn is_layer_hit(surfaces: SurfaceTable, point: Point, surface: GenerationalHandle) -> bool
-    ensures { λ r. ⌜ r ≡ isLayerHit surfaces point surface ⌝ }
+// Whether a panel is hit, by its record.
+pub fn is_record_hit(record: SurfaceRecord, point: Point) -> bool
+    ensures { λ r. ⌜ r ≡ isHit («record» .descriptor .geometry) (point .«x_milli») (point .«y_milli») ⌝ }
 {
-    let descriptor = surfaces.descriptor(surface);
+    let descriptor = record.descriptor;
     let geometry = descriptor.geometry;
     geometry.is_hit(point.x_milli, point.y_milli)
 }
@@ -37,12 +40,14 @@ fn fill(surfaces: SurfaceTable, layers: Layers, point: Point, buffer: &mut [u64]
     ensures place { λ r. ⌜ r ≡ length (numbersOf (hitsAmong surfaces point (entriesOf stateLayers layers))) ⌝ }
     ensures filled { λ r. ⌜ now (buffer .exit) ≡ written (now (buffer .entry)) (numbersOf (hitsAmong surfaces point (entriesOf stateLayers layers))) ⌝ }
 {
+    let records = surfaces.records;
+    let found = layers.records_of(records);
     let mut left = layers.count();
     let mut at: usize = 0;
     while 0 < left {
         left -= 1;
         let surface = layers.items[left];
-        let is_hit = is_layer_hit(surfaces, point, surface);
+        let is_hit = is_record_hit(found[left], point);
         at = crate::buffer::put_if(buffer, at, surface, is_hit);
     }
     at

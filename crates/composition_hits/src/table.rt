@@ -7,7 +7,7 @@ ghost use Rattle.lists.specs.Tables.{entriesOf, packed, pushed};
 ghost use Rattle.composition_state.specs.Layers.{layers as stateLayers};
 ghost use Rattle.composition_state.specs.Traces.{hits as stateHits};
 ghost use Rattle.composition_hits.specs.HitTest.{hitsAmong, listedIf, viewHits};
-use crate::stack::is_layer_hit;
+use crate::stack::is_record_hit;
 use crate::stack::layers_of;
 use composition_state::layers::Layers;
 use composition_state::registry::CompositionRegistry;
@@ -41,12 +41,14 @@ fn push_if(hits: Hits, surface: GenerationalHandle, is_hit: bool) -> Hits
 fn list_hits(surfaces: SurfaceTable, layers: Layers, point: Point) -> Hits
     ensures { λ r. ⌜ r ≡ packed stateHits (hitsAmong surfaces point (entriesOf stateLayers layers)) ⌝ }
 {
+    let records = surfaces.records;
+    let found = layers.records_of(records);
     let mut hits = Hits::new();
     let mut left = layers.count();
     while 0 < left {
         left -= 1;
         let surface = layers.items[left];
-        let is_hit = is_layer_hit(surfaces, point, surface);
+        let is_hit = is_record_hit(found[left], point);
         hits = push_if(hits, surface, is_hit);
     }
     hits

@@ -1,6 +1,6 @@
 -- What each passed check says, by the cases of its answer.
 use mathlib.Core.Path.{_≡_, refl, ap, _∙_}
-use mathlib.Core.Bool.{Bool, true, false, cond, _||_}
+use mathlib.Core.Bool.{Bool, true, false, cond}
 use Rattle.lists.proofs.ListLaws.{by-test, clash}
 use Rattle.handles.specs.Handles.{sameHandle}
 use Rattle.handles.specs.declared.arena.SlotStatus.{SlotStatus}
@@ -17,14 +17,6 @@ use Rattle.composition_state.specs.Layers.{isLive}
 pub either : {X : Type 0} (P : X → Type 0) (b : Bool) (x y : X) → P x → P y → P (cond b x y)
 either P true x y p q = p
 either P false x y p q = q
-
-pub or-left : (a b : Bool) → (a || b) ≡ false → a ≡ false
-or-left true b h = h
-or-left false b h = refl
-
-pub or-right : (a b : Bool) → (a || b) ≡ false → b ≡ false
-or-right true b h = clash refl h
-or-right false b h = h
 
 pub refused≢accepted {ℓ} : {P : Type ℓ} {e : CompositionError} → Refused e ≡ Accepted → P
 refused≢accepted q = clash (ap isAccepted q) refl

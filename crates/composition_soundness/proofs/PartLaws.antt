@@ -29,7 +29,8 @@ use Rattle.composition_state.specs.Registry.{withRevision, advanced, settled}
 use Rattle.composition_state.specs.Start.{anyZero, anyOverPort}
 use Rattle.composition_state.specs.Views.{viewAt}
 use Rattle.composition_soundness.specs.Claims.{WholeArena, Undamaged}
-use Rattle.composition_soundness.proofs.CaseLaws.{either, or-left, or-right}
+use Rattle.composition_state.proofs.DamageLaws.{or-left, or-right}
+use Rattle.composition_soundness.proofs.CaseLaws.{either}
 use Rattle.composition_soundness.proofs.LiveLaws.{filled-live}
 
 -- ---- the views, by their live handles

@@ -24,7 +24,8 @@ use Rattle.composition_state.specs.Shortcuts.{shortcuts}
 use Rattle.composition_state.specs.Start.{anyZero, anyOverU32, anyOverPort, isUnowned, isMisconfigured, startRefusal, freshRegistry, started}
 use Rattle.composition_state.specs.Traces.{traces}
 use Rattle.composition_state.proofs.SettleLaws.{accepted-eq, then-last, if-accepted}
-use Rattle.composition_soundness.proofs.CaseLaws.{or-left, or-right, then-first}
+use Rattle.composition_state.proofs.DamageLaws.{or-left, or-right}
+use Rattle.composition_soundness.proofs.CaseLaws.{then-first}
 use Rattle.composition_soundness.proofs.PartLaws.{Parts}
 
 pub none-live : (h : GenerationalHandle) → lookupOf emptyArena h ≡ Live → ⊥

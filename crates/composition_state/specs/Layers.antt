@@ -2,12 +2,12 @@
 use Prim.Native.Nat.{ℕ}
 use mathlib.Core.Path.{refl}
 use mathlib.Core.Bool.{Bool, true, false, cond, not}
-use mathlib.Core.List.{List}
+use mathlib.Core.List.{List, map}
 use lib.ListN.{length, getD}
 use lib.Dec.{ltb}
 use lib.IntN.{ℤ}
 use lib.Signed.{ltZ}
-use Rattle.lists.specs.Lists.{keep}
+use Rattle.lists.specs.Lists.{keep, pad}
 use Rattle.lists.specs.Tables.{Shape, entriesOf, packed}
 use Rattle.lists.specs.Orders.{lexBoth}
 use Rattle.lists.specs.Maps.{insert, rising}
@@ -63,6 +63,10 @@ layersWith records h t =
 
 abbrev pub layersWithout : GenerationalHandle → Layers → Layers
 layersWithout h t = packed layers (keep (λ at. not (sameHandle h at)) (entriesOf layers t))
+
+-- the record of each layer, by its place, and blanks after them
+unfoldable pub recordsOf : List SurfaceRecord → Layers → List SurfaceRecord
+recordsOf records t = pad 16 noSurface (map (λ h. getD records (h .index) noSurface) (entriesOf layers t))
 
 -- document 01, 42: in layer order, and no panel twice
 abbrev pub layersRise : List SurfaceRecord → Layers → Bool

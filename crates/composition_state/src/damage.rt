@@ -1,11 +1,13 @@
 // The damage test, 42: whether a registry that is handed in is one that calls could have left.
 ghost use mathlib.Core.Path.{_≡_};
+ghost use mathlib.Core.Bool.{cond, true};
 ghost use Prim.Native.Nat.{_≤_, _<_};
 ghost use lib.ListN.{length};
 ghost use Rattle.lists.specs.Lists.{all};
 ghost use Rattle.lists.specs.Tables.{entriesOf};
 ghost use Rattle.composition_state.specs.Traces.{traces};
-ghost use Rattle.composition_state.specs.Damage.{limitsSound, arenasSound, traceSound, tracesSound, layersSound, viewSound, slotSound, viewsSound, isSound, damageRefusal};
+ghost use Rattle.handles.specs.Handles.{handleOf};
+ghost use Rattle.composition_state.specs.Damage.{limitsSound, arenasSound, traceSound, tracesSound, layersSound, viewSound, viewsSound, isSound, damageRefusal};
 use crate::error::CompositionError;
 use crate::error::Outcome;
 use crate::registry::CompositionLimits;
@@ -16,6 +18,7 @@ use crate::trace::Traces;
 use crate::view::ViewRecord;
 use crate::view::ViewTable;
 use handles::arena::Arena;
+use handles::arena::Slot;
 use handles::arena::SlotStatus;
 use handles::handle::GenerationalHandle;
 use handles::well_formed::is_well_formed;
@@ -121,40 +124,40 @@ fn is_view_sound(
     }
 }
 
+// A slot that is not filled holds no view.
 fn is_slot_sound(
     windows: Arena,
     surfaces: SurfaceTable,
     limit: u64,
-    views: ViewTable,
+    slot: Slot,
     i: usize,
+    v: ViewRecord,
 ) -> bool
     requires { ⌜ i < 64 ⌝ }
-    ensures { λ r. ⌜ r ≡ slotSound windows surfaces limit views i ⌝ }
+    ensures { λ r. ⌜ r ≡ cond (slot .filled) (viewSound windows surfaces limit (handleOf i (slot .generation)) v) true ⌝ }
 {
-    let arena = views.arena;
-    let slots = arena.slots;
-    let slot = handles::arena::slot_at(slots, i);
     if slot.filled {
         let view = GenerationalHandle {
             index: i as u32,
             generation: slot.generation,
         };
-        let v = views.record(view);
         return is_view_sound(windows, surfaces, limit, view, v);
     }
     true
 }
 
 fn are_views_sound(windows: Arena, surfaces: SurfaceTable, limit: u64, views: ViewTable) -> bool
-    requires { ⌜ views .arena .used ≤ 64 ⌝ }
+    requires { ⌜ views .arena .used ≤ 16 ⌝ }
     ensures { λ r. ⌜ r ≡ viewsSound windows surfaces limit views ⌝ }
 {
     let arena = views.arena;
+    let slots = arena.slots;
+    let records = views.records;
     let n = arena.used;
     let mut ok = true;
     let mut i: usize = 0;
     while i < n {
-        let sound = is_slot_sound(windows, surfaces, limit, views, i);
+        let sound = is_slot_sound(windows, surfaces, limit, slots[i], i, records[i]);
         ok = both(ok, sound);
         i += 1;
     }

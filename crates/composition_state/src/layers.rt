@@ -1,15 +1,20 @@
 // The layers of a view: its panels from the lowest z_order to the highest, ties by handle.
 ghost use mathlib.Core.Path.{_≡_};
+ghost use mathlib.Core.Bool.{cond, false};
 ghost use mathlib.Core.List.{[], _++_};
 ghost use Prim.Native.Nat.{_+_, _≤_, _<_};
 ghost use lib.ListN.{length};
 ghost use lib.Signed.{ltZ};
 ghost use Rattle.lists.specs.Lists.{keep, all};
+ghost use Rattle.lists.specs.Orders.{lexBoth};
 ghost use Rattle.lists.specs.Tables.{entriesOf, packed, pushed};
-ghost use Rattle.composition_state.specs.Layers.{layers, layerLt, layerPasses, layersWith, layersWithout, layersRise, isLayerOf};
+ghost use Rattle.handles.specs.Handles.{handleLt, sameHandle};
+ghost use Rattle.handles.specs.Slots.{lookupOf};
+ghost use Rattle.composition_state.specs.Layers.{layers, layerLt, layerPasses, layersWith, layersWithout, layersRise, isLive, isLayerOf, recordsOf};
 use crate::surface::SurfaceDescriptor;
 use crate::surface::SurfaceRecord;
 use crate::surface::SurfaceTable;
+use handles::arena::Arena;
 use handles::arena::SlotStatus;
 use handles::handle::GenerationalHandle;
 
@@ -33,12 +38,15 @@ fn is_lower(a: SurfaceRecord, b: SurfaceRecord) -> bool
     low.z_order < high.z_order
 }
 
-// Whether a panel lies below another.
-pub fn layer_lt(records: [SurfaceRecord; 64], a: GenerationalHandle, b: GenerationalHandle) -> bool
-    ensures { λ r. ⌜ r ≡ layerLt records a b ⌝ }
+// Whether a panel lies below another, by their records and handles.
+fn record_lt(
+    low: SurfaceRecord,
+    high: SurfaceRecord,
+    a: GenerationalHandle,
+    b: GenerationalHandle,
+) -> bool
+    ensures { λ r. ⌜ r ≡ lexBoth ltZ handleLt (low .descriptor .«z_order», a) (high .descriptor .«z_order», b) ⌝ }
 {
-    let low = crate::surface::record_at(records, a.index as usize);
-    let high = crate::surface::record_at(records, b.index as usize);
     if is_lower(low, high) {
         return true;
     }
@@ -46,6 +54,15 @@ pub fn layer_lt(records: [SurfaceRecord; 64], a: GenerationalHandle, b: Generati
         return false;
     }
     handles::handle::handle_lt(a, b)
+}
+
+// Whether a panel lies below another.
+pub fn layer_lt(records: [SurfaceRecord; 64], a: GenerationalHandle, b: GenerationalHandle) -> bool
+    ensures { λ r. ⌜ r ≡ layerLt records a b ⌝ }
+{
+    let low = crate::surface::record_at(records, a.index as usize);
+    let high = crate::surface::record_at(records, b.index as usize);
+    record_lt(low, high, a, b)
 }
 
 fn passes(records: [SurfaceRecord; 64], test: LayerTest, at: GenerationalHandle) -> bool
@@ -58,14 +75,18 @@ fn passes(records: [SurfaceRecord; 64], test: LayerTest, at: GenerationalHandle)
     }
 }
 
-// Whether a layer is a live panel of a view.
-fn is_layer_of(surfaces: SurfaceTable, view: GenerationalHandle, at: GenerationalHandle) -> bool
-    ensures { λ r. ⌜ r ≡ isLayerOf surfaces view at ⌝ }
+// Whether a layer is a live panel of a view, by the slots of the panels and its record.
+fn is_layer_of(
+    arena: Arena,
+    record: SurfaceRecord,
+    view: GenerationalHandle,
+    at: GenerationalHandle,
+) -> bool
+    ensures { λ r. ⌜ r ≡ cond (isLive (lookupOf arena at)) (sameHandle («record» .descriptor .view) view) false ⌝ }
 {
-    let arena = surfaces.arena;
     match handles::arena::lookup(arena, at) {
         SlotStatus::Live => {
-            let descriptor = surfaces.descriptor(at);
+            let descriptor = record.descriptor;
             let owner = descriptor.view;
             handles::handle::same_handle(owner, view)
         }
@@ -153,16 +174,38 @@ impl Layers {
         self.retain(records, LayerTest::Other(surface))
     }
 
+    // The record of each layer, by its place, and blanks after them: so a loop over the layers reads a small array of its own,
+    // and hands on no table.
+    pub fn records_of(self, records: [SurfaceRecord; 64]) -> [SurfaceRecord; 16]
+        ensures { λ r. ⌜ r ≡ recordsOf records self ⌝ }
+    {
+        let n = self.count();
+        let mut found = [crate::surface::blank(); 16];
+        let mut i = 0;
+        while i < n {
+            let at = self.items[i];
+            let slot = at.index as usize;
+            let mut record = crate::surface::blank();
+            if slot < 64 {
+                record = records[slot];
+            }
+            found[i] = record;
+            i += 1;
+        }
+        found
+    }
+
     // Whether the layers are in layer order, none twice.
     pub fn is_rising(self, records: [SurfaceRecord; 64]) -> bool
         ensures { λ r. ⌜ r ≡ layersRise records self ⌝ }
     {
         let n = self.count();
+        let found = self.records_of(records);
         let mut i = 0;
         while i + 1 < n {
             let low = self.items[i];
             let high = self.items[i + 1];
-            if layer_lt(records, low, high) {} else {
+            if record_lt(found[i], found[i + 1], low, high) {} else {
                 return false;
             }
             i += 1;
@@ -175,11 +218,14 @@ impl Layers {
         ensures { λ r. ⌜ r ≡ all (isLayerOf surfaces view) (entriesOf layers self) ⌝ }
     {
         let n = self.count();
+        let arena = surfaces.arena;
+        let records = surfaces.records;
+        let found = self.records_of(records);
         let mut ok = true;
         let mut i = 0;
         while i < n {
             let at = self.items[i];
-            let of_view = is_layer_of(surfaces, view, at);
+            let of_view = is_layer_of(arena, found[i], view, at);
             ok = lists::both(ok, of_view);
             i += 1;
         }

@@ -1,6 +1,7 @@
 -- Document 01, Route: 42, 31, 8/9, 39, 20, then 34 to 38 by payload, 40, 32, 33, 41; all before anything is written.
-use mathlib.Core.Bool.{not, _&&_}
+use mathlib.Core.Bool.{Bool, not, _&&_}
 use Rattle.composition_state.specs.declared.registry.CompositionRegistry.{CompositionRegistry}
+use Rattle.composition_state.specs.declared.view.ViewTable.{ViewTable}
 use Rattle.composition_state.specs.Damage.{isSound}
 use Rattle.input_events.specs.declared.error.PlatformInputError.the-variants as error
 use Rattle.input_events.specs.declared.error.RouterOutcome.{RouterOutcome}
@@ -47,5 +48,13 @@ unfoldable pub routeRefusal : CompositionRegistry → PlatformInputRouter → Pl
 routeRefusal r t e =
     thenRouterRefusal (damagedRefusal r t)
     (thenRouterRefusal (eventRefusal (r .views) e)
+    (thenRouterRefusal (roomRefusal t e)
+    (orderRefusal t (e .header))))
+
+-- the same, from what the damage test of the registry says
+unfoldable pub refusalWith : Bool → ViewTable → PlatformInputRouter → PlatformInputEvent → RouterOutcome
+refusalWith sound views t e =
+    thenRouterRefusal (routerRefusalIf (not (sound && isRouterSound t)) error.Damaged)
+    (thenRouterRefusal (eventRefusal views e)
     (thenRouterRefusal (roomRefusal t e)
     (orderRefusal t (e .header))))

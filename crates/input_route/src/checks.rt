@@ -1,7 +1,7 @@
 // The checks of an event before anything is written.
 ghost use mathlib.Core.Path.{_≡_};
-ghost use Rattle.input_route.specs.Checks.{damagedRefusal, roomRefusal, orderRefusal, routeRefusal};
-use composition_state::registry::CompositionRegistry;
+ghost use Rattle.input_route.specs.Checks.{roomRefusal, orderRefusal, refusalWith};
+use composition_state::view::ViewTable;
 use input_events::checks::event_refusal;
 use input_events::error::PlatformInputError;
 use input_events::error::RouterOutcome;
@@ -13,13 +13,6 @@ use input_events::presses::effect_of;
 use input_router::order::Order;
 use input_router::router::PlatformInputRouter;
 use lists::both;
-
-fn damaged_refusal(registry: CompositionRegistry, router: PlatformInputRouter) -> RouterOutcome
-    ensures { λ r. ⌜ r ≡ damagedRefusal registry router ⌝ }
-{
-    let sound = both(registry.is_sound(), router.is_sound());
-    refuse_if(!sound, PlatformInputError::Damaged)
-}
 
 // A press that would open needs room, whether it will have a receiver or not.
 fn room_refusal(router: PlatformInputRouter, event: PlatformInputEvent) -> RouterOutcome
@@ -44,17 +37,20 @@ fn order_refusal(router: PlatformInputRouter, header: PlatformInputHeader) -> Ro
     }
 }
 
+// The first refusal of an event, with what the damage test of the registry says.
 pub fn route_refusal(
-    registry: CompositionRegistry,
+    is_sound: bool,
+    views: ViewTable,
     router: PlatformInputRouter,
     event: PlatformInputEvent,
 ) -> RouterOutcome
-    ensures { λ r. ⌜ r ≡ routeRefusal registry router event ⌝ }
+    ensures { λ r. ⌜ r ≡ refusalWith «is_sound» views router event ⌝ }
 {
-    let views = registry.views;
     let header = event.header;
+    let sound = both(is_sound, router.is_sound());
+    let damaged = refuse_if(!sound, PlatformInputError::Damaged);
     let room = room_refusal(router, event);
     let order = order_refusal(router, header);
     let own = event_refusal(views, event);
-    damaged_refusal(registry, router).then(own.then(room.then(order)))
+    damaged.then(own.then(room.then(order)))
 }

@@ -1,13 +1,17 @@
 // One event, routed: its checks, what is recorded, and then the disconnect, the loss or the arbitration.
 ghost use mathlib.Core.Path.{_≡_};
-ghost use Rattle.input_route.specs.Route.{heldFor, hitsFor, tracked, arbitratedReport, arbitratedAfter, routedArbitration, routedPayload, recordedEvent, routed};
+ghost use Rattle.input_route.specs.Route.{heldFor, hitsFor, tracked, arbitratedReport, recordedEvent, routed};
 use crate::checks::route_refusal;
-use composition_arbitration::arbitrate::Arbitrated;
 use composition_arbitration::arbitrate::ArbitrationResult;
-use composition_arbitration::arbitrate::arbitrate;
+use composition_arbitration::arbitrate::decide;
+use composition_arbitration::arbitrate::result_of;
+use composition_arbitration::arbitrate::with_traces_at;
+use composition_arbitration::trace::push_trace;
 use composition_hits::table::view_hits;
 use composition_input::answer::OptionalInputState;
+use composition_state::error::CompositionError;
 use composition_state::error::Outcome;
+use composition_state::error::refuse_if;
 use composition_state::registry::CompositionRegistry;
 use composition_state::trace::Hits;
 use handles::handle::OptionalHandle;
@@ -87,71 +91,6 @@ fn arbitrated_report(result: ArbitrationResult) -> PlatformInputRoutingReport
     }
 }
 
-fn after_arbitration(
-    arbitrated: Arbitrated,
-    router: PlatformInputRouter,
-    event: PlatformInputEvent,
-) -> Routed
-    ensures { λ r. ⌜ r ≡ arbitratedAfter arbitrated router event (arbitrated .outcome) ⌝ }
-{
-    let registry = arbitrated.registry;
-    let result = arbitrated.result;
-    let consumer = result.consumed_by;
-    let deliveries = result.deliveries;
-    let outcome = arbitrated.outcome;
-    match outcome {
-        Outcome::Accepted => {
-            let report = arbitrated_report(result);
-            let tracked = track(router, effect_of(event), receiver(consumer, deliveries));
-            Routed {
-                outcome: RouterOutcome::Accepted,
-                report,
-                registry,
-                router: tracked,
-            }
-        }
-        Outcome::Refused(error) => refused(
-            PlatformInputError::Composition(error),
-            registry,
-            router,
-        ),
-    }
-}
-
-fn route_arbitration(
-    registry: CompositionRegistry,
-    router: PlatformInputRouter,
-    event: PlatformInputEvent,
-) -> Routed
-    ensures { λ r. ⌜ r ≡ routedArbitration registry router event ⌝ }
-{
-    let header = event.header;
-    let view = header.view;
-    let asked = arbitration_event(event, held_for(router, event));
-    let hits = hits_for(registry, event);
-    after_arbitration(arbitrate(registry, view, asked, hits), router, event)
-}
-
-fn route_payload(
-    registry: CompositionRegistry,
-    router: PlatformInputRouter,
-    event: PlatformInputEvent,
-) -> Routed
-    ensures { λ r. ⌜ r ≡ routedPayload registry router event ⌝ }
-{
-    let header = event.header;
-    let payload = event.payload;
-    let device = header.device;
-    let view = header.view;
-    if is_disconnect(payload) {
-        return route_disconnect(registry, router, device);
-    }
-    if is_loss(payload) {
-        return route_loss(registry, router, view);
-    }
-    route_arbitration(registry, router, event)
-}
-
 fn record_event(router: PlatformInputRouter, event: PlatformInputEvent) -> PlatformInputRouter
     ensures { λ r. ⌜ r ≡ recordedEvent router event ⌝ }
 {
@@ -161,6 +100,7 @@ fn record_event(router: PlatformInputRouter, event: PlatformInputEvent) -> Platf
 }
 
 // Sequence and time stay recorded once the checks have passed, whatever the work then refuses.
+// The registry is tested for damage once, and nothing but the last step makes another of it: each would be a copy.
 pub fn route(
     registry: CompositionRegistry,
     router: PlatformInputRouter,
@@ -168,8 +108,42 @@ pub fn route(
 ) -> Routed
     ensures { λ r. ⌜ r ≡ routed registry router event ⌝ }
 {
-    match route_refusal(registry, router, event) {
-        RouterOutcome::Accepted => route_payload(registry, record_event(router, event), event),
-        RouterOutcome::Refused(error) => refused(error, registry, router),
+    let header = event.header;
+    let payload = event.payload;
+    let device = header.device;
+    let view = header.view;
+    let views = registry.views;
+    let sound = registry.is_sound();
+    if let RouterOutcome::Refused(error) = route_refusal(sound, views, router, event) {
+        return refused(error, registry, router);
+    }
+    let recorded = record_event(router, event);
+    if is_disconnect(payload) {
+        return route_disconnect(registry, recorded, device);
+    }
+    if is_loss(payload) {
+        return route_loss(registry, recorded, view);
+    }
+    let asked = arbitration_event(event, held_for(recorded, event));
+    let damage = refuse_if(!sound, CompositionError::Damaged);
+    let decision = decide(damage, registry, view, asked, hits_for(registry, event));
+    let trace = decision.trace;
+    let outcome = decision.outcome;
+    if let Outcome::Refused(error) = outcome {
+        return refused(PlatformInputError::Composition(error), registry, recorded);
+    }
+    let consumer = trace.consumed_by;
+    let deliveries = trace.deliveries;
+    let limits = registry.limits;
+    let stored = registry.traces;
+    let traces = push_trace(stored, limits.max_trace_entries, trace);
+    let tracked = track(recorded, effect_of(event), receiver(consumer, deliveries));
+    let report = arbitrated_report(result_of(trace));
+    let after = with_traces_at(registry, traces, trace.revision);
+    Routed {
+        outcome: RouterOutcome::Accepted,
+        report,
+        registry: after,
+        router: tracked,
     }
 }

@@ -88,7 +88,7 @@ impl Releases {
         next
     }
 
-    // The list with presses put after its own.
+    // The list with presses put after its own. Each is stored in its place, since the list by value would be copied once for each.
     fn extend(self, from: Bindings) -> Self
         requires { ⌜ self ≡ packed releases (entriesOf releases self) ⌝ }
         requires { ⌜ length (entriesOf releases self) + length (entriesOf bindings from) ≤ 640 ⌝ }
@@ -99,7 +99,9 @@ impl Releases {
         let mut i = 0;
         while i < n {
             let entry = from.entries[i];
-            next = next.push(entry);
+            let at = next.len;
+            next.items[at] = entry;
+            next.len = at + 1;
             i += 1;
         }
         next

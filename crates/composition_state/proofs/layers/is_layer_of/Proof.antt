@@ -9,9 +9,6 @@ lookup-requires c κs = search needs
 enum-told : tie.Need-enum-told
 enum-told c = search needs
 
-descriptor-requires : tie.Need-descriptor-requires
-descriptor-requires c κs = search needs
-
 same-handle-requires : tie.Need-same-handle-requires
 same-handle-requires c κs = search needs
 
@@ -22,27 +19,13 @@ enum-told-3 : tie.Need-enum-told-3
 enum-told-3 c = search needs
 
 returns : tie.Need-returns
-returns c =
-    simp (
-      ← c .same-handle .ensures,
-      ← c .before .before .descriptor .ensures,
-      c .before .before .before .enum-told .given .1,
-      ← c .before .before .before .before .before .lookup .ensures,
-    )
+returns c = simp (← c .same-handle .ensures, c .before .before .before .enum-told .given .1, ← c .before .before .before .before .before .lookup .ensures)
 
 returns-2 : tie.Need-returns-2
-returns-2 c =
-    simp (
-      c .enum-told2 .given .1,
-      ← c .before .before .lookup .ensures,
-    )
+returns-2 c = simp (c .enum-told2 .given .1, ← c .before .before .lookup .ensures)
 
 returns-3 : tie.Need-returns-3
-returns-3 c =
-    simp (
-      c .enum-told3 .given .1,
-      ← c .before .before .lookup .ensures,
-    )
+returns-3 c = simp (c .enum-told3 .given .1, ← c .before .before .lookup .ensures)
 
 pub is-layer-of-spec : {M : Type 1} → statement M
 is-layer-of-spec =
@@ -50,7 +33,6 @@ is-layer-of-spec =
     (tie.spec
     lookup-requires
     enum-told
-    descriptor-requires
     same-handle-requires
     enum-told-2
     enum-told-3

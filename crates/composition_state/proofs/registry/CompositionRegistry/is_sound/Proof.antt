@@ -19,7 +19,8 @@ are-traces-sound-requires c κs = search needs
 are-views-sound-requires : tie.Need-are-views-sound-requires
 are-views-sound-requires c κs =
     let a = c .before .before .before .before .before .before .before .before .before .before .before .before .before .before .before .before .args .self in
-    views-within (a .limits) (a .windows) (a .views .arena) (a .surfaces .arena) (sym (c .before .before .before .before .before .are-arenas-sound .ensures) ∙ c .before .before .before .before .if2 .taken)
+    let limited = sym (c .before .before .before .before .before .before .before .are-limits-sound .ensures) ∙ c .before .before .before .before .before .before .if1 .taken in
+    views-within (a .limits) (a .«first_generation») (a .windows) (a .views .arena) (a .surfaces .arena) limited (sym (c .before .before .before .before .before .are-arenas-sound .ensures) ∙ c .before .before .before .before .if2 .taken)
 
 returns : tie.Need-returns
 unfolding isSound

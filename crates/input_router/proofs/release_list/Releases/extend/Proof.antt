@@ -1,14 +1,14 @@
 -- `Releases::extend` meets its contract: after i turns the list holds its own entries and the first i presses.
-use Prim.Native.Nat.{_≤_, _<_, _-_}
+use Prim.Native.Nat.{_+_, _≤_, _<_, _-_}
 use mathlib.Core.Path.{_≡_, sym, ap, _∙_}
 use mathlib.Core.List.{_++_, append-nil}
-use lib.ListN.{length, take}
+use lib.ListN.{length, take, getD}
 use lib.Seq.{take-length}
-use Rattle.lists.specs.Tables.{entriesOf, packed}
+use Rattle.lists.specs.Tables.{entriesOf, packed, pushed}
 use Rattle.lists.proofs.TableLaws.{len-packed}
 use Rattle.maps.specs.Bindings.{bindings}
 use Rattle.maps.proofs.BindingLaws.{few}
-use Rattle.composition_input.proofs.CaptureListLaws.{copy-room, copy-turn}
+use Rattle.composition_input.proofs.CaptureListLaws.{copy-turn}
 use Rattle.input_router.specs.declared.release_list.Releases.{Releases}
 use Rattle.input_router.specs.ReleaseLists.{releases}
 use borrow.Author.Needs.{needs}
@@ -17,7 +17,7 @@ use Rattle.input_router.proofs.release_list.Releases.extend.Statement.{
 use Rattle.input_router.proofs.release_list.Releases.extend.Tie as tie
 
 abbrev Inv-loop : tie.InvT-loop
-Inv-loop from next₀ n i₀ next i = (i ≤ n) × (n ≤ 128) × (next ≡ packed releases (entriesOf releases next₀ ++ take i (entriesOf bindings from)))
+Inv-loop from next₀ n i₀ next i = (i ≤ n) × (n ≤ 128) × (next ≡ packed releases (entriesOf releases next₀ ++ take i (entriesOf bindings from))) × (next .len + (n - i) ≤ 640)
 
 abbrev μ-loop : tie.MeasureT-loop
 μ-loop from next₀ n i₀ next i = n - i
@@ -26,7 +26,10 @@ count-requires : tie.Need-count-requires Inv-loop μ-loop
 count-requires c κs = search needs
 
 loop-holds : tie.Need-loop-holds Inv-loop μ-loop
-loop-holds c = (omega arith, omega (arith, few (c .before .args .t2) (c .before .good .1 .0)), c .before .pre .0 ∙ ap (packed releases) (sym (append-nil _)))
+loop-holds c =
+    let begun = c .before in
+    let own = ap (λ (t : Releases). t .len) (begun .pre .0) ∙ len-packed releases _ in
+    (omega arith, omega (arith, few (begun .args .t2) (begun .good .1 .0)), begun .pre .0 ∙ ap (packed releases) (sym (append-nil _)), omega (arith, own, begun .pre .1, c .count .ensures))
 
 mul-entry : tie.Need-mul-entry Inv-loop μ-loop
 mul-entry c = omega arith
@@ -34,12 +37,14 @@ mul-entry c = omega arith
 element-copy-out-entry : tie.Need-element-copy-out-entry Inv-loop μ-loop
 element-copy-out-entry c = omega arith
 
-push-requires : tie.Need-push-requires Inv-loop μ-loop
-push-requires c κs =
-    let a = c .before .before .before .before .args in
-    let l = c .before .before .loop in
-    let within : l .i < length (entriesOf bindings (a .t2)) = omega arith in
-    omega (arith, ap (λ (t : Releases). t .len) (l .inv .2) ∙ len-packed releases _, copy-room releases bindings (a .t2) (l .i) (bindings .blank) within (entriesOf releases (a .self)) (c .before .before .before .before .pre .1))
+mul-entry-2 : tie.Need-mul-entry-2 Inv-loop μ-loop
+mul-entry-2 c = omega arith
+
+element-set-from-entry : tie.Need-element-set-from-entry Inv-loop μ-loop
+element-set-from-entry c = omega arith
+
+add-next : tie.Need-add-next Inv-loop μ-loop
+add-next c = omega arith
 
 add-i : tie.Need-add-i Inv-loop μ-loop
 add-i c = omega arith
@@ -48,11 +53,12 @@ loop-less : tie.Need-loop-less Inv-loop μ-loop
 loop-less c = omega arith
 
 loop-again : tie.Need-loop-again Inv-loop μ-loop
+unfolding pushed
 loop-again c =
-    let a = c .before .before .before .before .before .args in
-    let l = c .before .before .before .loop in
+    let a = c .before .before .before .before .args in
+    let l = c .before .before .loop in
     let within : l .i < length (entriesOf bindings (a .t2)) = omega arith in
-    (omega arith, omega arith, c .push .ensures ∙ rw (l .inv .2) (copy-turn releases bindings (a .t2) (l .i) _ within (entriesOf releases (a .self)) (c .before .before .before .before .before .pre .1)))
+    (omega arith, omega arith, ap (λ (t : Releases). pushed releases t (getD (a .t2 .entries) (l .i) (bindings .blank))) (l .inv .2) ∙ copy-turn releases bindings (a .t2) (l .i) (bindings .blank) within (entriesOf releases (a .self)) (c .before .before .before .before .pre .1), omega arith)
 
 returns : tie.Need-returns Inv-loop μ-loop
 returns c =
@@ -69,7 +75,9 @@ extend-spec =
     loop-holds
     mul-entry
     element-copy-out-entry
-    push-requires
+    mul-entry-2
+    element-set-from-entry
+    add-next
     add-i
     loop-less
     loop-again
