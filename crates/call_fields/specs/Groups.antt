@@ -27,7 +27,7 @@ use Rattle.call_fields.specs.PanelChoices.{scopeOf, scopeNumber}
 abbrev pub handleOf : ℕ → ℕ → GenerationalHandle
 handleOf i g = record { index = within 4294967296 i; generation = within 4294967296 g }
 
-abbrev pub optionalOf : OptionalNumbers → OptionalHandle
+unfoldable pub optionalOf : OptionalNumbers → OptionalHandle
 optionalOf n = cond (isOne (n .present)) (handle.Some (handleOf (n .index) (n .generation))) handle.None
 
 abbrev pub optionalNumbers : OptionalHandle → OptionalNumbers
@@ -42,7 +42,7 @@ abbrev pub deviceOf : ℕ → ℕ → InputDeviceId
 deviceOf v g = record { value = v; generation = within 4294967296 g }
 
 -- x, y, width, height
-abbrev pub rectOf : RectNumbers → OptionalRect
+unfoldable pub rectOf : RectNumbers → OptionalRect
 rectOf n =
     cond (isOne (n .present))
     (rect.Some (record { «x_milli» = signedOf (n .«x_milli») .value; «y_milli» = signedOf (n .«y_milli») .value; «width_milli» = within 4294967296 (n .«width_milli»); «height_milli» = within 4294967296 (n .«height_milli») }))
@@ -66,7 +66,7 @@ registrationOf n = record { «class_mask» = n .«class_mask»; scope = scopeOf 
 abbrev pub registrationNumbers : SurfaceShortcutRegistration → RegistrationNumbers
 registrationNumbers r = record { «class_mask» = r .«class_mask»; scope = scopeNumber (r .scope); priority = ofZ w16 (r .priority) }
 
-abbrev pub maybeOf : MaybeNumbers → OptionalRegistration
+unfoldable pub maybeOf : MaybeNumbers → OptionalRegistration
 maybeOf n = cond (isOne (n .present)) (registration.Some (registrationOf (n .registration))) registration.None
 
 abbrev pub maybeNumbers : OptionalRegistration → MaybeNumbers
