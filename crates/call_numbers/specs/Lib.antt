@@ -8,3 +8,5 @@ pub mod Payloads
 pub mod Events
 pub mod Reads
 pub mod Calls
+pub mod Fits
+pub mod Claims

@@ -1,6 +1,7 @@
 // Any call from its first 32 numbers: the number at 0 tells the group.
 ghost use mathlib.Core.Path.{_≡_};
 ghost use Rattle.call_numbers.specs.Calls.{callAt};
+ghost use Rattle.call_numbers.specs.Claims.{CallNumberClaims};
 use crate::arbitrations::arbitrate_at;
 use crate::events::router_at;
 use crate::inputs::device_at;
@@ -43,3 +44,8 @@ pub fn call_at(words: [u64; 32]) -> Call
     }
     Call::Read(read_at(words))
 }
+
+// A call is read back from its numbers, and no two calls have the same.
+pub fn call_number_claims()
+    ensures { λ _. ⌜ CallNumberClaims ⌝ }
+{}
