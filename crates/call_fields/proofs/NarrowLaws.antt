@@ -7,7 +7,7 @@ use borrow.Author.Tests.{lt-ltb, ltb-true}
 use lib.Dec.{ltb}
 use lib.IntN.{ℤ}
 use mir.Syntax.{w16, w32}
-use mir.Val.{toZ, ofZ, SFits, Fits}
+use mir.Val.{toZ, ofZ, SFits}
 use mir.Facts.{toZ-ofZ, ofZ-toZ}
 use Rattle.lists.proofs.ListLaws.{by-test}
 use Rattle.call_fields.specs.Narrow.{within, isOne, oneIf, signedOf, shortOf}

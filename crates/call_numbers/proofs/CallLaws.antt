@@ -15,13 +15,12 @@ use Rattle.calls.specs.declared.call.ShortcutCall.{ShortcutCall}
 use Rattle.calls.specs.declared.call.ShortcutCall.the-variants as shortcut
 use Rattle.call_fields.proofs.ChoiceLaws.{policy-back, surface-kind-back}
 use Rattle.call_fields.proofs.NarrowLaws.{within-back, flag-back, signed-back}
-use Rattle.call_numbers.specs.Arbitrations.{arbitrateNumbers, arbitrateAt}
 use Rattle.call_numbers.specs.Calls.{callNumbers, callAt}
 use Rattle.call_numbers.specs.Claims.{CallNumberClaims}
 use Rattle.call_numbers.specs.Fits.{FitsDescriptor, FitsPanel, FitsInput, FitsShortcut, FitsRead, FitsCall}
 use Rattle.call_numbers.specs.Geometries.{geometryAt, metricsAt, transformAt}
 use Rattle.call_numbers.specs.Inputs.{inputNumbers, inputAt}
-use Rattle.call_numbers.specs.Panels.{panelNumbers, panelAt, descriptorNumbers, descriptorAt}
+use Rattle.call_numbers.specs.Panels.{panelNumbers, panelAt, descriptorAt}
 use Rattle.call_numbers.specs.Reads.{readNumbers, readAt}
 use Rattle.call_numbers.specs.Shortcuts.{shortcutNumbers, shortcutAt}
 use Rattle.call_numbers.proofs.EventLaws.{event-back, router-back}
