@@ -1,0 +1,21 @@
+-- The answers of the router's calls, apart from the states.
+use Rattle.input_releases.specs.declared.answer.Routed.{Routed}
+use Rattle.input_router.specs.declared.releases.Released.{Released}
+use Rattle.in_place.specs.declared.router_parts.ReleaseAnswer.{ReleaseAnswer}
+use Rattle.in_place.specs.declared.router_parts.ReleaseParts.{ReleaseParts}
+use Rattle.in_place.specs.declared.router_parts.RouteAnswer.{RouteAnswer}
+use Rattle.in_place.specs.declared.router_parts.RouteParts.{RouteParts}
+
+-- the refusal and the report of a routed event
+abbrev pub routeAnswer : Routed → RouteAnswer
+routeAnswer x = record { outcome = x .outcome; report = x .report }
+
+abbrev pub routeParts : Routed → RouteParts
+routeParts x = record { answer = routeAnswer x; registry = x .registry; router = x .router }
+
+-- whether the router is damaged (42), and what is released
+abbrev pub releaseAnswer : Released → ReleaseAnswer
+releaseAnswer x = record { «is_damaged» = x .«is_damaged»; releases = x .releases }
+
+abbrev pub releaseParts : Released → ReleaseParts
+releaseParts x = record { answer = releaseAnswer x; router = x .router }

@@ -1,0 +1,50 @@
+// `route`, `release_surface` and `release_all` on a lent router: the host's router is one object, altered in place by each event.
+ghost use mathlib.Core.Path.{_≡_};
+ghost use Rattle.input_route.specs.Route.{routed};
+ghost use Rattle.input_router.specs.Releases.{releaseSurface, releaseAll};
+ghost use Rattle.in_place.specs.Parts.{routeAnswer, releaseAnswer};
+use crate::router_parts::ReleaseAnswer;
+use crate::router_parts::RouteAnswer;
+use crate::router_parts::release_all_parts;
+use crate::router_parts::release_surface_parts;
+use crate::router_parts::route_parts;
+use composition_state::registry::CompositionRegistry;
+use handles::handle::GenerationalHandle;
+use input_events::event::PlatformInputEvent;
+use input_router::router::PlatformInputRouter;
+
+pub fn route(
+    registry: &mut CompositionRegistry,
+    router: &mut PlatformInputRouter,
+    event: PlatformInputEvent,
+) -> RouteAnswer
+    ensures { λ r. ⌜ (now (registry .exit) ≡ routed (now (registry .entry)) (now (router .entry)) event .registry)
+        × (now (router .exit) ≡ routed (now (registry .entry)) (now (router .entry)) event .router)
+        × (r ≡ routeAnswer (routed (now (registry .entry)) (now (router .entry)) event)) ⌝ }
+{
+    let done = route_parts(*registry, *router, event);
+    *registry = done.registry;
+    *router = done.router;
+    done.answer
+}
+
+pub fn release_surface(
+    router: &mut PlatformInputRouter,
+    surface: GenerationalHandle,
+) -> ReleaseAnswer
+    ensures { λ r. ⌜ (now (router .exit) ≡ releaseSurface (now (router .entry)) surface .router)
+        × (r ≡ releaseAnswer (releaseSurface (now (router .entry)) surface)) ⌝ }
+{
+    let done = release_surface_parts(*router, surface);
+    *router = done.router;
+    done.answer
+}
+
+pub fn release_all(router: &mut PlatformInputRouter) -> ReleaseAnswer
+    ensures { λ r. ⌜ (now (router .exit) ≡ releaseAll (now (router .entry)) .router)
+        × (r ≡ releaseAnswer (releaseAll (now (router .entry)))) ⌝ }
+{
+    let done = release_all_parts(*router);
+    *router = done.router;
+    done.answer
+}
