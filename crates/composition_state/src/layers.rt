@@ -13,6 +13,7 @@ use crate::surface::SurfaceTable;
 use handles::arena::SlotStatus;
 use handles::handle::GenerationalHandle;
 
+#[repr(C)]
 pub struct Layers {
     pub items: [GenerationalHandle; 16],
     pub len: usize,
