@@ -8,3 +8,5 @@ pub mod Traces
 pub mod Bindings
 pub mod Registry
 pub mod Router
+pub mod Memory
+pub mod Claims

@@ -45,25 +45,20 @@ fn event_with(
 pub fn event_memory(event: ArbitrationEvent) -> ArbitrationEventMemory
     ensures { λ r. ⌜ r ≡ eventMemory event ⌝ }
 {
-    let none = no_pointer();
-    let nothing = OptionalHandle::None;
+    let blank = no_pointer();
+    let none = OptionalHandle::None;
     match event {
-        ArbitrationEvent::Pointer { hit } => event_with(0, none, hit, 0),
-        ArbitrationEvent::PointerStack => event_with(1, none, nothing, 0),
+        ArbitrationEvent::Pointer { hit } => event_with(0, blank, hit, 0),
+        ArbitrationEvent::PointerStack => event_with(1, blank, none, 0),
         ArbitrationEvent::PointerFor { pointer, hit } => event_with(2, pointer, hit, 0),
-        ArbitrationEvent::PointerStackFor { pointer } => event_with(3, pointer, nothing, 0),
-        ArbitrationEvent::Keyboard => event_with(4, none, nothing, 0),
-        ArbitrationEvent::KeyboardFor { target } => event_with(5, none, target, 0),
-        ArbitrationEvent::Gamepad => event_with(6, none, nothing, 0),
-        ArbitrationEvent::GamepadFor { target } => event_with(7, none, target, 0),
-        ArbitrationEvent::Text => event_with(8, none, nothing, 0),
-        ArbitrationEvent::Shortcut => event_with(9, none, nothing, 0),
-        ArbitrationEvent::SystemShortcut { class_mask } => event_with(
-            10,
-            none,
-            nothing,
-            class_mask,
-        ),
+        ArbitrationEvent::PointerStackFor { pointer } => event_with(3, pointer, none, 0),
+        ArbitrationEvent::Keyboard => event_with(4, blank, none, 0),
+        ArbitrationEvent::KeyboardFor { target } => event_with(5, blank, target, 0),
+        ArbitrationEvent::Gamepad => event_with(6, blank, none, 0),
+        ArbitrationEvent::GamepadFor { target } => event_with(7, blank, target, 0),
+        ArbitrationEvent::Text => event_with(8, blank, none, 0),
+        ArbitrationEvent::Shortcut => event_with(9, blank, none, 0),
+        ArbitrationEvent::SystemShortcut { class_mask } => event_with(10, blank, none, class_mask),
     }
 }
 
