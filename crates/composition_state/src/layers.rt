@@ -18,6 +18,7 @@ use handles::arena::Arena;
 use handles::arena::SlotStatus;
 use handles::handle::GenerationalHandle;
 
+#[repr(C)]
 pub struct Layers {
     pub items: [GenerationalHandle; 16],
     pub len: usize,

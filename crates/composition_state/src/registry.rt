@@ -10,6 +10,7 @@ use crate::view::ViewTable;
 use handles::arena::Arena;
 use handles::handle::GenerationalHandle;
 
+#[repr(C)]
 pub struct CompositionLimits {
     pub max_windows: u64,
     pub max_views: u64,

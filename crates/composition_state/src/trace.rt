@@ -35,16 +35,19 @@ pub enum ArbitrationEvent {
     },
 }
 
+#[repr(C)]
 pub struct Hits {
     pub items: [GenerationalHandle; 16],
     pub len: usize,
 }
 
+#[repr(C)]
 pub struct InputDelivery {
     pub surface: GenerationalHandle,
     pub observed: bool,
 }
 
+#[repr(C)]
 pub struct Deliveries {
     pub items: [InputDelivery; 16],
     pub len: usize,

@@ -12,6 +12,7 @@ pub enum ViewVisibility {
 }
 
 // What a view keeps free at each side, in thousandths.
+#[repr(C)]
 pub struct ViewInsets {
     pub top_milli: u32,
     pub right_milli: u32,

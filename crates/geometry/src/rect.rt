@@ -3,6 +3,7 @@ ghost use lib.IntN.{pos};
 ghost use Rattle.geometry.specs.Rect.{contains, isEmpty, spans};
 
 // A rectangle in thousandths, whose corner may be negative.
+#[repr(C)]
 pub struct SurfaceRect {
     pub x_milli: i32,
     pub y_milli: i32,

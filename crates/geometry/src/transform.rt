@@ -7,6 +7,7 @@ ghost use Rattle.geometry.specs.Transform.{difference, identity, inverse
 const EPSILON: f64 = 2.220446049250313e-16;
 
 // A matrix in 65,536ths, and a translation in thousandths.
+#[repr(C)]
 pub struct SurfaceTransform {
     pub m11_q16: i32,
     pub m12_q16: i32,

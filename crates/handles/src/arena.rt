@@ -31,12 +31,14 @@ pub const SLOTS: usize = 64;
 const LAST_GENERATION: u32 = 4294967295;
 
 // One place of the table. The generation is that of the handle last issued for it, or, where it is empty, of the next.
+#[repr(C)]
 pub struct Slot {
     pub generation: u32,
     pub filled: bool,
 }
 
 // The first `used` slots were issued at some time; the first `freed` places of `free` are the indices of the empty ones.
+#[repr(C)]
 pub struct Arena {
     pub slots: [Slot; SLOTS],
     pub used: usize,

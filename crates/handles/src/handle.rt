@@ -5,6 +5,7 @@ ghost use Rattle.handles.specs.Handles.{isValid, sameHandle, handleLt, s
 // The index that no slot has.
 const NO_INDEX: u32 = 4294967295;
 
+#[repr(C)]
 pub struct GenerationalHandle {
     pub index: u32,
     pub generation: u32,

@@ -15,11 +15,13 @@ ghost use Rattle.maps.specs.Keys.{pointerKey, keyLt, keySame};
 ghost use Rattle.maps.specs.MapTables.{retained, found, removed, accepts, keysRise};
 ghost use Rattle.maps.specs.Captures.{captures, captureKey, capturePasses, surfaceOf, insertionOf};
 
+#[repr(C)]
 pub struct Capture {
     pub pointer: CompositionPointerId,
     pub surface: GenerationalHandle,
 }
 
+#[repr(C)]
 pub struct PointerCaptures {
     pub entries: [Capture; 32],
     pub len: usize,

@@ -3,6 +3,7 @@ ghost use mathlib.Core.Path.{_≡_};
 ghost use Rattle.maps.specs.Keys.{pointerValid, deviceValid, pointerKey, deviceKey, bindingKey, keyLt, keySame, deviceSame};
 
 // A pointer: a contact of a device.
+#[repr(C)]
 pub struct CompositionPointerId {
     pub device: u64,
     pub device_generation: u32,
@@ -30,6 +31,7 @@ impl CompositionPointerId {
     }
 }
 
+#[repr(C)]
 pub struct InputDeviceId {
     pub value: u64,
     pub generation: u32,
@@ -60,6 +62,7 @@ pub enum BindingKey {
 }
 
 // A key of any kind as numbers: the kind, the device with its generation, and the contact or key.
+#[repr(C)]
 pub struct MapKey {
     pub kind: u32,
     pub device: u64,

@@ -12,11 +12,13 @@ ghost use Rattle.maps.specs.Keys.{deviceKey, keyLt, keySame};
 ghost use Rattle.maps.specs.MapTables.{retained, found, removed, accepts, keysRise};
 ghost use Rattle.maps.specs.Sequences.{sequences, sequenceKey, sequencePasses, sequenceOf, insertionOf};
 
+#[repr(C)]
 pub struct DeviceSequence {
     pub device: InputDeviceId,
     pub sequence: u64,
 }
 
+#[repr(C)]
 pub struct DeviceSequences {
     pub entries: [DeviceSequence; 32],
     pub len: usize,

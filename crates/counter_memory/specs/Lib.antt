@@ -1,0 +1,12 @@
+pub mod Choices
+pub mod Optionals
+pub mod Events
+pub mod Views
+pub mod Surfaces
+pub mod Shortcuts
+pub mod Traces
+pub mod Bindings
+pub mod Registry
+pub mod Router
+pub mod Memory
+pub mod Claims
