@@ -34,7 +34,8 @@ use Rattle.composition_input.specs.Captures.{primary, capture}
 use Rattle.composition_arbitration.specs.Targets.{isAmong}
 use Rattle.composition_close.specs.Close.{closeRefusal, detached, freed, closedPanel, slotRefusal, closeSettled, closeAfter, closeSurface}
 use Rattle.composition_close.specs.Detach.{isOnSurface, hadCapture, detachedView}
-use Rattle.composition_soundness.proofs.CaseLaws.{or-left, refused≢accepted, then-first, status-live, live-is, by-handle}
+use Rattle.composition_state.proofs.DamageLaws.{or-left}
+use Rattle.composition_soundness.proofs.CaseLaws.{refused≢accepted, then-first, status-live, live-is, by-handle}
 use Rattle.composition_soundness.proofs.ListLaws.{all-as, all-both, all-keep}
 use Rattle.composition_soundness.proofs.LiveLaws.{was-live, stays-live}
 use Rattle.composition_soundness.proofs.PartLaws.{Parts}
