@@ -1,5 +1,9 @@
 // `step`: any call of the port on any counter.
 ghost use mathlib.Core.Path.{_≡_};
+ghost use Rattle.composition_arbitration.specs.Arbitration.{arbitrated};
+ghost use Rattle.composition_input.specs.Captures.{releaseDevicePointerCaptures};
+ghost use Rattle.read_step.specs.Reads.{readStep};
+ghost use Rattle.registry_step.specs.Steps.{panelStep, inputStep, shortcutStep};
 ghost use Rattle.counter.specs.Step.{fromRegistry, fromCaptures, fromArbitrated, fromClosed, fromShutdown, fromRouted, fromReleased, fromRead, closeStep, routerStep, stepped};
 use crate::answer::Answer;
 use crate::answer::Listed;
@@ -7,10 +11,16 @@ use crate::answer::Made;
 use crate::answer::ReadOut;
 use crate::answer::of_arbitration;
 use crate::answer::of_releases;
+use calls::arguments::ArbitrateArguments;
+use calls::arguments::DeviceArguments;
 use calls::call::Call;
 use calls::call::CloseCall;
+use calls::call::InputCall;
 use calls::call::Lists;
+use calls::call::PanelCall;
+use calls::call::ReadCall;
 use calls::call::RouterCall;
+use calls::call::ShortcutCall;
 use composition_arbitration::arbitrate::Arbitrated;
 use composition_arbitration::arbitrate::arbitrate;
 use composition_close::answer::Shutdown;
@@ -19,7 +29,9 @@ use composition_close::close::close_surface;
 use composition_close::shutdown::shutdown;
 use composition_input::answer::CapturesReleased;
 use composition_input::captures::release_device_pointer_captures;
+use composition_shortcuts::register::Registrations;
 use composition_state::registry::CompositionRegistry;
+use composition_state::trace::Hits;
 use input_events::error::PlatformInputError;
 use input_events::error::from_composition;
 use input_events::error::refuse_if;
@@ -253,30 +265,77 @@ fn router_step(counter: Counter, call: RouterCall) -> Stepped
     }
 }
 
-pub fn step(counter: Counter, call: Call, lists: Lists) -> Stepped
-    ensures { λ r. ⌜ r ≡ stepped counter call lists ⌝ }
+fn panel_call(counter: Counter, call: PanelCall) -> Stepped
+    ensures { λ r. ⌜ r ≡ fromRegistry (panelStep (counter .registry) call) (counter .router) ⌝ }
 {
     let registry = counter.registry;
     let router = counter.router;
+    from_registry(panel_step(registry, call), router)
+}
+
+fn input_call(counter: Counter, call: InputCall) -> Stepped
+    ensures { λ r. ⌜ r ≡ fromRegistry (inputStep (counter .registry) call) (counter .router) ⌝ }
+{
+    let registry = counter.registry;
+    let router = counter.router;
+    from_registry(input_step(registry, call), router)
+}
+
+fn device_call(counter: Counter, given: DeviceArguments) -> Stepped
+    ensures { λ r. ⌜ r ≡ fromCaptures (releaseDevicePointerCaptures (counter .registry) (given .device) (given .«device_generation»)) (counter .router) ⌝ }
+{
+    let registry = counter.registry;
+    let router = counter.router;
+    from_captures(
+        release_device_pointer_captures(registry, given.device, given.device_generation),
+        router,
+    )
+}
+
+fn shortcut_call(counter: Counter, call: ShortcutCall, registrations: Registrations) -> Stepped
+    ensures { λ r. ⌜ r ≡ fromRegistry (shortcutStep (counter .registry) call registrations) (counter .router) ⌝ }
+{
+    let registry = counter.registry;
+    let router = counter.router;
+    from_registry(shortcut_step(registry, call, registrations), router)
+}
+
+fn arbitrate_call(counter: Counter, given: ArbitrateArguments, hits: Hits) -> Stepped
+    ensures { λ r. ⌜ r ≡ fromArbitrated (arbitrated (counter .registry) (given .view) (given .event) hits) (counter .router) ⌝ }
+{
+    let registry = counter.registry;
+    let router = counter.router;
+    let view = given.view;
+    let event = given.event;
+    from_arbitrated(arbitrate(registry, view, event, hits), router)
+}
+
+fn read_call(counter: Counter, call: ReadCall) -> Stepped
+    ensures { λ r. ⌜ r ≡ fromRead counter (readStep (counter .registry) (counter .router) call) ⌝ }
+{
+    let registry = counter.registry;
+    let router = counter.router;
+    from_read(counter, read_step(registry, router, call))
+}
+
+// Each group of calls has a function of its own, so that their states do not stand on the stack together.
+pub fn step(counter: Counter, call: Call, lists: Lists) -> Stepped
+    ensures { λ r. ⌜ r ≡ stepped counter call lists ⌝ }
+{
     match call {
-        Call::Panel(which) => from_registry(panel_step(registry, which), router),
-        Call::Input(which) => from_registry(input_step(registry, which), router),
-        Call::ReleaseDevice(given) => from_captures(
-            release_device_pointer_captures(registry, given.device, given.device_generation),
-            router,
-        ),
+        Call::Panel(which) => panel_call(counter, which),
+        Call::Input(which) => input_call(counter, which),
+        Call::ReleaseDevice(given) => device_call(counter, given),
         Call::Shortcut(which) => {
             let registrations = lists.registrations;
-            from_registry(shortcut_step(registry, which, registrations), router)
+            shortcut_call(counter, which, registrations)
         }
         Call::Arbitrate(given) => {
-            let view = given.view;
-            let event = given.event;
             let hits = lists.hits;
-            from_arbitrated(arbitrate(registry, view, event, hits), router)
+            arbitrate_call(counter, given, hits)
         }
         Call::Close(which) => close_step(counter, which),
         Call::Router(which) => router_step(counter, which),
-        Call::Read(which) => from_read(counter, read_step(registry, router, which)),
+        Call::Read(which) => read_call(counter, which),
     }
 }

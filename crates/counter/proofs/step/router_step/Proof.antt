@@ -3,61 +3,42 @@ use Rattle.counter.specs.Step.{routerStep}
 use borrow.Author.Needs.{needs}
 use Rattle.counter.proofs.step.router_step.Statement.{statement}
 use Rattle.counter.proofs.step.router_step.Tie as tie
-use Rattle.counter.proofs.step.router_step.Reads as reads
-use Rattle.counter.proofs.step.router_step.Lts as lts
-use Rattle.counter.proofs.step.from_released.Reads as from-released-reads
-use Rattle.counter.proofs.step.from_routed.Reads as from-routed-reads
-use Rattle.input_route.proofs.route.route.Reads as route-reads
-use Rattle.input_router.proofs.router.PlatformInputRouter.release_all.Reads as release-all-reads
-use Rattle.input_router.proofs.router.PlatformInputRouter.release_surface.Reads as release-surface-reads
 
--- src/step.rt:247:27
 enum-known-call : tie.Need-enum-known-call
 enum-known-call c = search needs
 
--- src/step.rt:247:49
 route-requires : tie.Need-route-requires
 route-requires c κs = search needs
 
--- src/step.rt:247:37
 from-routed-requires : tie.Need-from-routed-requires
 from-routed-requires c κs = search needs
 
--- src/step.rt:248:36
 enum-known-call-2 : tie.Need-enum-known-call-2
 enum-known-call-2 c = search needs
 
--- src/step.rt:248:72
 release-surface-requires : tie.Need-release-surface-requires
 release-surface-requires c κs = search needs
 
--- src/step.rt:248:48
 from-released-requires : tie.Need-from-released-requires
 from-released-requires c κs = search needs
 
--- src/step.rt:249:59
 enum-told : tie.Need-enum-told
 enum-told c = search needs
 
--- src/step.rt:249:59
 release-all-requires : tie.Need-release-all-requires
 release-all-requires c κs = search needs
 
--- src/step.rt:249:35
 from-released-requires-2 : tie.Need-from-released-requires-2
 from-released-requires-2 c κs = search needs
 
--- src/step.rt:241:1
 returns : tie.Need-returns
 unfolding routerStep
 returns c = rw (c .before .before .before .call .given .1, c .from-routed .ensures, c .before .route .ensures)
 
--- src/step.rt:241:1
 returns-2 : tie.Need-returns-2
 unfolding routerStep
 returns-2 c = rw (c .before .before .before .call2 .given .1, c .from-released .ensures, c .before .release-surface .ensures)
 
--- src/step.rt:241:1
 returns-3 : tie.Need-returns-3
 unfolding routerStep
 returns-3 c = rw (c .before .before .enum-told .given .1, c .from-released2 .ensures, c .before .release-all .ensures)

@@ -2,19 +2,13 @@ use Rattle.read_step.proofs.HitLaws.{tested}
 use borrow.Author.Needs.{needs}
 use Rattle.read_step.proofs.hits.test.Statement.{statement}
 use Rattle.read_step.proofs.hits.test.Tie as tie
-use Rattle.read_step.proofs.hits.test.Reads as reads
-use Rattle.read_step.proofs.hits.test.Lts as lts
-use Rattle.composition_hits.proofs.stack.hit_test_into.Reads as hit-test-into-reads
 
--- src/hits.rt:35:55
 slice-aggregate-hit-test-into : tie.Need-slice-aggregate-hit-test-into
 slice-aggregate-hit-test-into c = search needs
 
--- src/hits.rt:35:9
 hit-test-into-requires : tie.Need-hit-test-into-requires
 hit-test-into-requires c κs = search needs
 
--- src/hits.rt:31:1
 returns : tie.Need-returns
 returns c = let e = c .before .hit-test-into .ensures in tested _ _ _ _ _ (e .0) (e .1)
 

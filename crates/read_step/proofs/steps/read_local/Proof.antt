@@ -4,20 +4,13 @@ use mir.Val.{SFits}
 use mir.Syntax.{w32}
 use Rattle.read_step.proofs.steps.read_local.Statement.{statement}
 use Rattle.read_step.proofs.steps.read_local.Tie as tie
-use Rattle.read_step.proofs.steps.read_local.Reads as reads
-use Rattle.read_step.proofs.steps.read_local.Lts as lts
-use Rattle.geometry.proofs.transform.SurfaceTransform.inverse_point.Reads as inverse-point-reads
-use Rattle.read_step.proofs.steps.read.Reads as read-reads
 
--- src/steps.rt:66:9
 inverse-point-requires : tie.Need-inverse-point-requires
 inverse-point-requires c κs = search needs
 
--- src/steps.rt:67:5
 read-requires : tie.Need-read-requires
 read-requires c κs = search needs
 
--- src/steps.rt:61:1
 returns : tie.Need-returns
 returns c =
     let p = c .before .before .before .before .before .before .args .given .point in

@@ -2,201 +2,147 @@ use Rattle.read_step.specs.Reads.{readStep}
 use borrow.Author.Needs.{needs}
 use Rattle.read_step.proofs.steps.read_step.Statement.{statement}
 use Rattle.read_step.proofs.steps.read_step.Tie as tie
-use Rattle.read_step.proofs.steps.read_step.Reads as reads
-use Rattle.read_step.proofs.steps.read_step.Lts as lts
-use Rattle.composition_reads.proofs.surface_descriptor.Reads as surface-descriptor-reads
-use Rattle.composition_reads.proofs.view_input_state.Reads as view-input-state-reads
-use Rattle.composition_reads.proofs.view_layers.Reads as view-layers-reads
-use Rattle.composition_reads.proofs.view_metrics.Reads as view-metrics-reads
-use Rattle.composition_reads.proofs.view_pointer_captures.Reads as view-pointer-captures-reads
-use Rattle.composition_reads.proofs.view_window.Reads as view-window-reads
-use Rattle.input_router.proofs.router.PlatformInputRouter.active_binding_count.Reads as active-binding-count-reads
-use Rattle.read_step.proofs.answer.count.Reads as count-reads
-use Rattle.read_step.proofs.steps.read.Reads as read-reads
-use Rattle.read_step.proofs.steps.read_hits.Reads as read-hits-reads
-use Rattle.read_step.proofs.steps.read_local.Reads as read-local-reads
 
--- src/steps.rt:78:30
 enum-known-call : tie.Need-enum-known-call
 enum-known-call c = search needs
 
--- src/steps.rt:79:17
 view-window-requires : tie.Need-view-window-requires
 view-window-requires c κs = search needs
 
--- src/steps.rt:82:13
 read-requires : tie.Need-read-requires
 read-requires c κs = search needs
 
--- src/steps.rt:84:31
 enum-known-call-2 : tie.Need-enum-known-call-2
 enum-known-call-2 c = search needs
 
--- src/steps.rt:85:17
 view-metrics-requires : tie.Need-view-metrics-requires
 view-metrics-requires c κs = search needs
 
--- src/steps.rt:88:13
 read-requires-2 : tie.Need-read-requires-2
 read-requires-2 c κs = search needs
 
--- src/steps.rt:90:34
 enum-known-call-3 : tie.Need-enum-known-call-3
 enum-known-call-3 c = search needs
 
--- src/steps.rt:91:17
 view-input-state-requires : tie.Need-view-input-state-requires
 view-input-state-requires c κs = search needs
 
--- src/steps.rt:94:13
 read-requires-3 : tie.Need-read-requires-3
 read-requires-3 c κs = search needs
 
--- src/steps.rt:96:39
 enum-known-call-4 : tie.Need-enum-known-call-4
 enum-known-call-4 c = search needs
 
--- src/steps.rt:97:17
 view-pointer-captures-requires : tie.Need-view-pointer-captures-requires
 view-pointer-captures-requires c κs = search needs
 
--- src/steps.rt:99:13
 read-requires-4 : tie.Need-read-requires-4
 read-requires-4 c κs = search needs
 
--- src/steps.rt:101:37
 enum-known-call-5 : tie.Need-enum-known-call-5
 enum-known-call-5 c = search needs
 
--- src/steps.rt:102:17
 surface-descriptor-requires : tie.Need-surface-descriptor-requires
 surface-descriptor-requires c κs = search needs
 
--- src/steps.rt:105:13
 read-requires-5 : tie.Need-read-requires-5
 read-requires-5 c κs = search needs
 
--- src/steps.rt:107:30
 enum-known-call-6 : tie.Need-enum-known-call-6
 enum-known-call-6 c = search needs
 
--- src/steps.rt:108:17
 view-layers-requires : tie.Need-view-layers-requires
 view-layers-requires c κs = search needs
 
--- src/steps.rt:110:13
 read-requires-6 : tie.Need-read-requires-6
 read-requires-6 c κs = search needs
 
--- src/steps.rt:112:34
 enum-told : tie.Need-enum-told
 enum-told c = search needs
 
--- src/steps.rt:112:29
 read-requires-7 : tie.Need-read-requires-7
 read-requires-7 c κs = search needs
 
--- src/steps.rt:113:34
 enum-told-2 : tie.Need-enum-told-2
 enum-told-2 c = search needs
 
--- src/steps.rt:113:67
 count-requires : tie.Need-count-requires
 count-requires c κs = search needs
 
--- src/steps.rt:113:29
 read-requires-8 : tie.Need-read-requires-8
 read-requires-8 c κs = search needs
 
--- src/steps.rt:115:13
 enum-told-3 : tie.Need-enum-told-3
 enum-told-3 c = search needs
 
--- src/steps.rt:116:33
 active-binding-count-requires : tie.Need-active-binding-count-requires
 active-binding-count-requires c κs = search needs
 
--- src/steps.rt:114:41
 read-requires-9 : tie.Need-read-requires-9
 read-requires-9 c κs = search needs
 
--- src/steps.rt:118:32
 enum-known-call-7 : tie.Need-enum-known-call-7
 enum-known-call-7 c = search needs
 
--- src/steps.rt:118:42
 read-hits-requires : tie.Need-read-hits-requires
 read-hits-requires c κs = search needs
 
--- src/steps.rt:119:32
 enum-known-call-8 : tie.Need-enum-known-call-8
 enum-known-call-8 c = search needs
 
--- src/steps.rt:119:42
 read-local-requires : tie.Need-read-local-requires
 read-local-requires c κs = search needs
 
--- src/steps.rt:70:1
 returns : tie.Need-returns
 unfolding readStep
 returns c =
     rw (c .before .before .before .before .call .given .1, c .read .ensures, c .before .before .view-window .ensures)
 
--- src/steps.rt:70:1
 returns-2 : tie.Need-returns-2
 unfolding readStep
 returns-2 c =
     rw (c .before .before .before .before .call2 .given .1, c .read2 .ensures, c .before .before .view-metrics .ensures)
 
--- src/steps.rt:70:1
 returns-3 : tie.Need-returns-3
 unfolding readStep
 returns-3 c =
     rw (c .before .before .before .before .call3 .given .1, c .read3 .ensures, c .before .before .view-input-state .ensures)
 
--- src/steps.rt:70:1
 returns-4 : tie.Need-returns-4
 unfolding readStep
 returns-4 c =
     rw (c .before .before .before .call4 .given .1, c .read4 .ensures, c .before .view-pointer-captures .ensures)
 
--- src/steps.rt:70:1
 returns-5 : tie.Need-returns-5
 unfolding readStep
 returns-5 c =
     rw (c .before .before .before .before .call5 .given .1, c .read5 .ensures, c .before .before .surface-descriptor .ensures)
 
--- src/steps.rt:70:1
 returns-6 : tie.Need-returns-6
 unfolding readStep
 returns-6 c =
     rw (c .before .before .before .call6 .given .1, c .read6 .ensures, c .before .view-layers .ensures)
 
--- src/steps.rt:70:1
 returns-7 : tie.Need-returns-7
 unfolding readStep
 returns-7 c =
     rw (c .before .enum-told .given .1, c .read7 .ensures)
 
--- src/steps.rt:70:1
 returns-8 : tie.Need-returns-8
 unfolding readStep
 returns-8 c =
     rw (c .before .before .enum-told2 .given .1, c .read8 .ensures, c .before .count .ensures)
 
--- src/steps.rt:70:1
 returns-9 : tie.Need-returns-9
 unfolding readStep
 returns-9 c =
     rw (c .before .before .enum-told3 .given .1, c .read9 .ensures, c .before .active-binding-count .ensures)
 
--- src/steps.rt:70:1
 returns-10 : tie.Need-returns-10
 unfolding readStep
 returns-10 c =
     rw (c .before .before .call7 .given .1, c .read-hits .ensures)
 
--- src/steps.rt:70:1
 returns-11 : tie.Need-returns-11
 unfolding readStep
 returns-11 c =

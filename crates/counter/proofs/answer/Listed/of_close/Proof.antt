@@ -3,20 +3,13 @@ use Rattle.counter.specs.Answers.{closeListed}
 use borrow.Author.Needs.{needs}
 use Rattle.counter.proofs.answer.Listed.of_close.Statement.{statement}
 use Rattle.counter.proofs.answer.Listed.of_close.Tie as tie
-use Rattle.counter.proofs.answer.Listed.of_close.Reads as reads
-use Rattle.counter.proofs.answer.Listed.of_close.Lts as lts
-use Rattle.composition_close.proofs.answer.CompositionShutdownReport.blank.Reads as blank-reads
-use Rattle.counter.proofs.answer.no_captures.Reads as no-captures-reads
 
--- src/answer.rt:114:13
 no-captures-requires : tie.Need-no-captures-requires
 no-captures-requires c κs = search needs
 
--- src/answer.rt:115:13
 blank-requires : tie.Need-blank-requires
 blank-requires c κs = search needs
 
--- src/answer.rt:111:5
 returns : tie.Need-returns
 unfolding closeListed
 returns c = rw (c .before .no-captures .ensures, c .blank .ensures)

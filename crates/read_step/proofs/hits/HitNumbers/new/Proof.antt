@@ -3,10 +3,7 @@ use mathlib.Core.Path.{refl}
 use Rattle.lists.specs.Tables.{packed}
 use Rattle.read_step.proofs.hits.HitNumbers.new.Statement.{statement}
 use Rattle.read_step.proofs.hits.HitNumbers.new.Tie as tie
-use Rattle.read_step.proofs.hits.HitNumbers.new.Reads as reads
-use Rattle.read_step.proofs.hits.HitNumbers.new.Lts as lts
 
--- src/hits.rt:20:5
 returns : tie.Need-returns
 unfolding packed
 returns c = refl
