@@ -18,6 +18,7 @@ keyOf k =
     (cond (eqb (k .kind) 2) (Gamepad (record { value = k .device; generation = k .generation }))
     (Pointer (record { device = k .device; «device_generation» = k .generation; contact = k .code })))
 
+-- a press, with its key as numbers
 abbrev pub bindingMemory : Binding → BindingMemory
 bindingMemory b = record { key = bindingKey (b .key); surface = b .surface }
 

@@ -10,9 +10,11 @@ use Rattle.composition_state.specs.declared.trace.ArbitrationEvent.the-variants
 use Rattle.counter_memory.specs.declared.events.ArbitrationEventMemory.{ArbitrationEventMemory}
 use Rattle.counter_memory.specs.Optionals.{optionalHandleMemory, optionalHandleOf}
 
+-- the pointer of a kind that has none
 abbrev pub noPointer : CompositionPointerId
 noPointer = record { device = 0; «device_generation» = 0; contact = 0 }
 
+-- a kind's number, with a pointer, a target and a class mask
 abbrev pub eventWith : ℕ → CompositionPointerId → OptionalHandle → ℕ → ArbitrationEventMemory
 eventWith kind pointer target mask = record { pointer = pointer; «class_mask» = mask; target = optionalHandleMemory target; kind = kind }
 

@@ -10,6 +10,7 @@ use Rattle.handles.specs.declared.handle.OptionalHandle.the-variants as handle
 use Rattle.counter_memory.specs.declared.optionals.OptionalHandleMemory.{OptionalHandleMemory}
 use Rattle.counter_memory.specs.declared.optionals.OptionalRectMemory.{OptionalRectMemory}
 
+-- the value where there is one, and zeros where there is none
 abbrev pub optionalHandleMemory : OptionalHandle → OptionalHandleMemory
 optionalHandleMemory handle.None = record { «is_some» = false; handle = handleOf 0 0 }
 optionalHandleMemory (handle.Some h) = record { «is_some» = true; handle = h }
