@@ -1,3 +1,0 @@
-pub mod SignLaws
-pub mod ChoiceLaws
-pub mod NarrowLaws

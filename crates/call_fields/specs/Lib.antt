@@ -1,4 +1,0 @@
-pub mod Narrow
-pub mod PanelChoices
-pub mod EventChoices
-pub mod Groups
