@@ -1,3 +1,4 @@
 pub mod Pieces
 pub mod Columns
+pub mod Named
 pub mod Claims

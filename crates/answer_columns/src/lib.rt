@@ -1,6 +1,7 @@
-// Columns 1 to 6 of an answer line, which are document 01's desk table, and the pieces that they are made of.
+// Columns 1 to 7 of an answer line, of which the first six are document 01's desk table, and the pieces that they are made of.
 pub mod columns;
 pub mod delivered;
+pub mod named;
 pub mod pieces;
 pub mod released;
 

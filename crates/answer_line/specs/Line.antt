@@ -16,7 +16,7 @@ use Rattle.answer_columns.specs.Pieces.{putAll, spacePieces, nonePieces, cellPi
 use Rattle.answer_columns.specs.Columns.{numberPieces, columnPieces}
 use Rattle.answer_more.specs.More.{moreOf}
 use Rattle.answer_more.specs.Place.{placed, morePlaced}
-use Rattle.answer_line.specs.Named.{handleFor, namedPieces}
+use Rattle.answer_columns.specs.Named.{handleFor, namedPieces}
 
 -- columns 1 to 8 of an answered call, from the start of the buffer
 abbrev pub answerTaken : ℕ → Call → Answer → Counter → List ℕ → List ℕ × ℕ

@@ -1,4 +1,3 @@
 // A whole answer line: columns 1 to 8, the digests, and the line feed.
 pub mod line;
-pub mod named;
 pub mod plain;

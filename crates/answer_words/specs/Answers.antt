@@ -21,7 +21,7 @@ use Rattle.registry_dump.specs.Traces.{deliveriesNumbers}
 use Rattle.router_dump.specs.Presses.{pressNumbers}
 use Rattle.answer_more.specs.More.{moreOf}
 use Rattle.answer_more.specs.Place.{placed, morePlaced}
-use Rattle.answer_line.specs.Named.{handleFor}
+use Rattle.answer_columns.specs.Named.{handleFor}
 
 -- a release: 0 a pointer's cancel, 1 a key's up, 2 a gamepad's disconnect; then its press with its panel
 abbrev pub releaseNumbers : Binding → List Number

@@ -7,7 +7,7 @@ ghost use Rattle.answer_numbers.specs.Numbers.{numbersTaken};
 ghost use Rattle.answer_words.specs.Answers.{arbitrationNumbers, answerNumbers, answerPlaced};
 use crate::listed::take_captures;
 use crate::listed::take_releases;
-use answer_line::named::named_handle;
+use answer_columns::named::named_handle;
 use answer_more::more::put_more;
 use answer_numbers::groups::take_optional;
 use answer_numbers::sink::Sink;

@@ -32,7 +32,7 @@ pub struct Arbitrated {
 }
 
 // Whether an event has a list of hits.
-fn is_stack(event: ArbitrationEvent) -> bool
+pub fn is_stack(event: ArbitrationEvent) -> bool
     ensures { λ r. ⌜ r ≡ isStack event ⌝ }
 {
     match event {

@@ -250,7 +250,8 @@ fn close_step(counter: Counter, call: CloseCall) -> Stepped
     }
 }
 
-fn router_step(counter: Counter, call: RouterCall) -> Stepped
+// Also for a host that routes without the other calls.
+pub fn router_step(counter: Counter, call: RouterCall) -> Stepped
     ensures { λ r. ⌜ r ≡ routerStep counter call ⌝ }
 {
     let registry = counter.registry;

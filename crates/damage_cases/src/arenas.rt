@@ -29,7 +29,6 @@ fn with_free(a: Arena, first: u32, second: u32, freed: usize) -> Arena {
 fn with_limits(
     registry: CompositionRegistry,
     windows: u64,
-    traces: u64,
     first_generation: u32,
 ) -> CompositionRegistry {
     let mut next = registry;
@@ -38,104 +37,148 @@ fn with_limits(
         max_views: 4,
         max_surfaces: 8,
         max_surfaces_per_view: 4,
-        max_trace_entries: traces,
+        max_trace_entries: 8,
     };
     next.limits = limits;
     next.first_generation = first_generation;
     next
 }
 
-fn ask_windows(registry: CompositionRegistry) {
+fn ask_window_counts(
+    name: &[u8],
+    registry: CompositionRegistry,
+    used: usize,
+    freed: usize,
+    live: usize,
+) {
     let a = registry.windows;
     crate::ask(
-        b"windows: a count over the table",
-        registry.with_windows(with_counts(a, 65, 1, 1)),
+        name,
+        registry.with_windows(with_counts(a, used, freed, live)),
     );
+}
+
+fn ask_window_free(
+    name: &[u8],
+    registry: CompositionRegistry,
+    first: u32,
+    second: u32,
+    freed: usize,
+) {
+    let a = registry.windows;
     crate::ask(
-        b"windows: a count over the limit",
-        registry.with_windows(with_counts(a, 5, 1, 1)),
+        name,
+        registry.with_windows(with_free(a, first, second, freed)),
     );
+}
+
+fn ask_window_generation(name: &[u8], registry: CompositionRegistry) {
+    let a = registry.windows;
+    crate::ask(name, registry.with_windows(with_first_slot(a, 0, true)));
+}
+
+fn ask_windows(registry: CompositionRegistry) {
+    ask_window_counts(b"windows: a count over the table", registry, 65, 1, 1);
+    ask_window_counts(b"windows: a count over the limit", registry, 5, 1, 1);
+    ask_window_generation(b"windows: generation 0", registry);
+    ask_window_counts(b"windows: live count", registry, 2, 1, 2);
+    ask_window_counts(b"windows: an empty slot not free", registry, 2, 0, 1);
+    ask_window_free(b"windows: a filled slot free", registry, 0, 0, 1);
+    ask_window_free(b"windows: an empty slot free twice", registry, 1, 1, 2);
+    ask_window_free(b"windows: an unused slot free", registry, 1, 2, 2);
+}
+
+fn ask_view_counts(
+    name: &[u8],
+    registry: CompositionRegistry,
+    used: usize,
+    freed: usize,
+    live: usize,
+) {
+    let views = registry.views;
+    let a = views.arena;
     crate::ask(
-        b"windows: generation 0",
-        registry.with_windows(with_first_slot(a, 0, true)),
+        name,
+        registry.with_views(views.with_arena(with_counts(a, used, freed, live))),
     );
+}
+
+fn ask_view_generation(name: &[u8], registry: CompositionRegistry) {
+    let views = registry.views;
+    let a = views.arena;
     crate::ask(
-        b"windows: live count",
-        registry.with_windows(with_counts(a, 2, 1, 2)),
-    );
-    crate::ask(
-        b"windows: an empty slot not free",
-        registry.with_windows(with_counts(a, 2, 0, 1)),
-    );
-    crate::ask(
-        b"windows: a filled slot free",
-        registry.with_windows(with_free(a, 0, 0, 1)),
-    );
-    crate::ask(
-        b"windows: an empty slot free twice",
-        registry.with_windows(with_free(a, 1, 1, 2)),
-    );
-    crate::ask(
-        b"windows: an unused slot free",
-        registry.with_windows(with_free(a, 1, 2, 2)),
+        name,
+        registry.with_views(views.with_arena(with_first_slot(a, 0, true))),
     );
 }
 
 fn ask_views(registry: CompositionRegistry) {
-    let views = registry.views;
-    let a = views.arena;
-    crate::ask(
-        b"views: a count over the limit",
-        registry.with_views(views.with_arena(with_counts(a, 5, 1, 2))),
-    );
-    crate::ask(
-        b"views: generation 0",
-        registry.with_views(views.with_arena(with_first_slot(a, 0, true))),
-    );
-    crate::ask(
-        b"views: live count",
-        registry.with_views(views.with_arena(with_counts(a, 3, 1, 3))),
-    );
-    crate::ask(
-        b"views: an empty slot not free",
-        registry.with_views(views.with_arena(with_counts(a, 3, 0, 2))),
-    );
+    ask_view_counts(b"views: a count over the limit", registry, 5, 1, 2);
+    ask_view_generation(b"views: generation 0", registry);
+    ask_view_counts(b"views: live count", registry, 3, 1, 3);
+    ask_view_counts(b"views: an empty slot not free", registry, 3, 0, 2);
 }
 
-fn ask_panels(registry: CompositionRegistry) {
+fn ask_panel_counts(
+    name: &[u8],
+    registry: CompositionRegistry,
+    used: usize,
+    freed: usize,
+    live: usize,
+) {
     let surfaces = registry.surfaces;
     let a = surfaces.arena;
     crate::ask(
-        b"panels: a count over the limit",
-        registry.with_surfaces(surfaces.with_arena(with_counts(a, 9, 0, 3))),
+        name,
+        registry.with_surfaces(surfaces.with_arena(with_counts(a, used, freed, live))),
     );
+}
+
+fn ask_panel_generation(name: &[u8], registry: CompositionRegistry) {
+    let surfaces = registry.surfaces;
+    let a = surfaces.arena;
     crate::ask(
-        b"panels: generation 0",
+        name,
         registry.with_surfaces(surfaces.with_arena(with_first_slot(a, 0, true))),
     );
+}
+
+fn ask_panel_free(name: &[u8], registry: CompositionRegistry) {
+    let surfaces = registry.surfaces;
+    let a = surfaces.arena;
     crate::ask(
-        b"panels: live count",
-        registry.with_surfaces(surfaces.with_arena(with_counts(a, 3, 0, 2))),
-    );
-    crate::ask(
-        b"panels: a filled slot free",
+        name,
         registry.with_surfaces(surfaces.with_arena(with_free(a, 0, 0, 1))),
     );
 }
 
-fn ask_limits(registry: CompositionRegistry) {
-    crate::ask(b"limits: 0", with_limits(registry, 0, 8, 1));
-    crate::ask(b"limits: over the port's", with_limits(registry, 9, 8, 1));
-    crate::ask(
-        b"limits: first generation 0",
-        with_limits(registry, 4, 8, 0),
-    );
+fn ask_panels(registry: CompositionRegistry) {
+    ask_panel_counts(b"panels: a count over the limit", registry, 9, 0, 3);
+    ask_panel_generation(b"panels: generation 0", registry);
+    ask_panel_counts(b"panels: live count", registry, 3, 0, 2);
+    ask_panel_free(b"panels: a filled slot free", registry);
+}
+
+fn ask_registrations(name: &[u8], registry: CompositionRegistry) {
     let mut many = registry.shortcuts;
     many.len = 257;
-    crate::ask(
-        b"registrations: a count over the table",
-        registry.with_shortcuts(many),
-    );
+    crate::ask(name, registry.with_shortcuts(many));
+}
+
+fn ask_with_limits(
+    name: &[u8],
+    registry: CompositionRegistry,
+    windows: u64,
+    first_generation: u32,
+) {
+    crate::ask(name, with_limits(registry, windows, first_generation));
+}
+
+fn ask_limits(registry: CompositionRegistry) {
+    ask_with_limits(b"limits: 0", registry, 0, 1);
+    ask_with_limits(b"limits: over the port's", registry, 9, 1);
+    ask_with_limits(b"limits: first generation 0", registry, 4, 0);
+    ask_registrations(b"registrations: a count over the table", registry);
 }
 
 fn with_traces(
@@ -155,19 +198,20 @@ fn with_traces(
     next
 }
 
+fn ask_with_traces(
+    name: &[u8],
+    registry: CompositionRegistry,
+    len: usize,
+    hits: usize,
+    deliveries: usize,
+) {
+    crate::ask(name, with_traces(registry, len, hits, deliveries));
+}
+
 fn ask_traces(registry: CompositionRegistry) {
-    crate::ask(
-        b"traces: a count over the limit",
-        with_traces(registry, 9, 0, 0),
-    );
-    crate::ask(
-        b"traces: hits over the table",
-        with_traces(registry, 1, 17, 0),
-    );
-    crate::ask(
-        b"traces: deliveries over the table",
-        with_traces(registry, 1, 0, 17),
-    );
+    ask_with_traces(b"traces: a count over the limit", registry, 9, 0, 0);
+    ask_with_traces(b"traces: hits over the table", registry, 1, 17, 0);
+    ask_with_traces(b"traces: deliveries over the table", registry, 1, 0, 17);
 }
 
 pub fn ask_all(registry: CompositionRegistry) {

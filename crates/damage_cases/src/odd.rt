@@ -58,19 +58,26 @@ fn ask_capture(name: &[u8], registry: CompositionRegistry) {
     crate::report(name, outcome);
 }
 
-pub fn ask_all(registry: CompositionRegistry) {
+fn ask_garbage(registry: CompositionRegistry) {
     let windows = registry.windows;
     crate::ask(
         b"odd: garbage in unused places",
         registry.with_windows(with_garbage(windows)),
     );
-    let outside = outside_layers(registry);
+}
+
+fn ask_outside(outside: CompositionRegistry) {
     crate::ask(b"odd: a panel outside the layers", outside);
     ask_focus(
         b"odd: focus on a panel outside the layers",
         outside,
         crate::first(2),
     );
+}
+
+pub fn ask_all(registry: CompositionRegistry) {
+    ask_garbage(registry);
+    ask_outside(outside_layers(registry));
     let stale = GenerationalHandle {
         index: 1,
         generation: 9,

@@ -5,6 +5,11 @@ use composition_state::view::ViewRecord;
 use handles::handle::GenerationalHandle;
 use maps::captures::PointerCaptures;
 
+fn view_0(registry: CompositionRegistry) -> ViewRecord {
+    let views = registry.views;
+    views.record(crate::first(0))
+}
+
 // View 0 with another record.
 fn with_view(registry: CompositionRegistry, record: ViewRecord) -> CompositionRegistry {
     let views = registry.views;
@@ -43,58 +48,45 @@ fn with_equal_keys(captures: PointerCaptures) -> PointerCaptures {
     next
 }
 
-fn ask_layers(registry: CompositionRegistry, v: ViewRecord) {
+fn ask_with_layers(name: &[u8], registry: CompositionRegistry, low: u32, high: u32, len: usize) {
+    let v = view_0(registry);
     let layers = v.surfaces;
-    let low = crate::first(0);
-    let high = crate::first(1);
-    let other = crate::first(2);
-    let unused = crate::first(5);
+    let changed = with_layers(layers, crate::first(low), crate::first(high), len);
+    crate::ask(name, with_view(registry, v.with_surfaces(changed)));
+}
+
+fn ask_with_len(name: &[u8], registry: CompositionRegistry, len: usize) {
+    let v = view_0(registry);
+    let captures = v.pointer_captures;
     crate::ask(
-        b"layers: a count over the limit",
-        with_view(registry, v.with_surfaces(with_layers(layers, low, high, 5))),
+        name,
+        with_view(registry, v.with_pointer_captures(with_len(captures, len))),
     );
+}
+
+fn ask_equal_keys(name: &[u8], registry: CompositionRegistry) {
+    let v = view_0(registry);
+    let captures = v.pointer_captures;
     crate::ask(
-        b"layers: a panel twice",
-        with_view(
-            registry,
-            v.with_surfaces(with_layers(layers, high, high, 2)),
-        ),
+        name,
+        with_view(registry, v.with_pointer_captures(with_equal_keys(captures))),
     );
+}
+
+fn ask_with_window(name: &[u8], registry: CompositionRegistry) {
     crate::ask(
-        b"layers: a panel not live",
-        with_view(
-            registry,
-            v.with_surfaces(with_layers(layers, low, unused, 2)),
-        ),
-    );
-    crate::ask(
-        b"layers: a panel of another view",
-        with_view(
-            registry,
-            v.with_surfaces(with_layers(layers, low, other, 2)),
-        ),
-    );
-    crate::ask(
-        b"layers: not in layer order",
-        with_view(registry, v.with_surfaces(with_layers(layers, high, low, 2))),
+        name,
+        with_view(registry, with_window(view_0(registry), crate::first(1))),
     );
 }
 
 pub fn ask_all(registry: CompositionRegistry) {
-    let views = registry.views;
-    let v = views.record(crate::first(0));
-    let captures = v.pointer_captures;
-    crate::ask(
-        b"view: its window not live",
-        with_view(registry, with_window(v, crate::first(1))),
-    );
-    ask_layers(registry, v);
-    crate::ask(
-        b"captures: a count over the table",
-        with_view(registry, v.with_pointer_captures(with_len(captures, 33))),
-    );
-    crate::ask(
-        b"captures: keys that do not rise",
-        with_view(registry, v.with_pointer_captures(with_equal_keys(captures))),
-    );
+    ask_with_window(b"view: its window not live", registry);
+    ask_with_layers(b"layers: a count over the limit", registry, 0, 1, 5);
+    ask_with_layers(b"layers: a panel twice", registry, 1, 1, 2);
+    ask_with_layers(b"layers: a panel not live", registry, 0, 5, 2);
+    ask_with_layers(b"layers: a panel of another view", registry, 0, 2, 2);
+    ask_with_layers(b"layers: not in layer order", registry, 1, 0, 2);
+    ask_with_len(b"captures: a count over the table", registry, 33);
+    ask_equal_keys(b"captures: keys that do not rise", registry);
 }

@@ -19,6 +19,12 @@ isStarted Accepted = true
 isStarted Capacity = false
 isStarted PortLimit = false
 
+-- the number of a start
+abbrev pub startNumber : StartOutcome → ℕ
+startNumber Accepted = 0
+startNumber Capacity = 40
+startNumber PortLimit = 41
+
 -- document 01, Router start: over 128 bindings, 41; the full commit decides that a limit of 0 is refused, 40
 abbrev pub startOutcome : ℕ → StartOutcome
 startOutcome limit = cond (eqb limit 0) Capacity (cond (ltb 128 limit) PortLimit Accepted)

@@ -1,7 +1,7 @@
 // The router: one value that holds the open presses, the last sequence number of each known device and the last time.
 ghost use mathlib.Core.Path.{_≡_};
 ghost use lib.ListN.{length};
-ghost use Rattle.input_router.specs.Router.{isStarted, startOutcome, emptyRouter, started, withBindings, withSequences, withTimestamp, pressesOf};
+ghost use Rattle.input_router.specs.Router.{isStarted, startNumber, startOutcome, emptyRouter, started, withBindings, withSequences, withTimestamp, pressesOf};
 use maps::bindings::Bindings;
 use maps::sequences::DeviceSequences;
 
@@ -34,6 +34,17 @@ impl StartOutcome {
             StartOutcome::Capacity => false,
             StartOutcome::PortLimit => false,
         }
+    }
+}
+
+// Document 01's number of a start.
+pub fn start_number(outcome: StartOutcome) -> u64
+    ensures { λ r. ⌜ r ≡ startNumber outcome ⌝ }
+{
+    match outcome {
+        StartOutcome::Accepted => 0,
+        StartOutcome::Capacity => 40,
+        StartOutcome::PortLimit => 41,
     }
 }
 

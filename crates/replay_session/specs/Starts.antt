@@ -9,7 +9,7 @@ use Rattle.composition_state.specs.Start.{started}
 use Rattle.input_router.specs.declared.router.PlatformInputRouter.{PlatformInputRouter}
 use Rattle.input_router.specs.declared.router.StartOutcome.{StartOutcome}
 use Rattle.input_router.specs.declared.router.StartOutcome.the-variants as router
-use Rattle.input_router.specs.Router.{started as routerStarted}
+use Rattle.input_router.specs.Router.{started as routerStarted, startNumber}
 use Rattle.counter.specs.declared.step.Counter.{Counter}
 use Rattle.script_calls.specs.declared.script_call.Start.{Start}
 use Rattle.replay_session.specs.declared.starts.Started.{Started}
@@ -22,12 +22,6 @@ unfoldable pub startedRegistry : Counter → Start → Started
 startedRegistry c s =
     let x = started (s .session) (s .«session_epoch») (s .limits) (s .«first_revision») (s .«first_generation») in
     record { number = numberOf (x .outcome); counter = record { registry = registryKept (x .outcome) (c .registry) (x .registry); router = c .router } }
-
--- document 01, Router start: 40 for a limit of 0, as the commit decides, 41 over 128
-abbrev pub startNumber : StartOutcome → ℕ
-startNumber router.Accepted = 0
-startNumber router.Capacity = 40
-startNumber router.PortLimit = 41
 
 abbrev pub routerKept : StartOutcome → PlatformInputRouter → PlatformInputRouter → PlatformInputRouter
 routerKept router.Accepted old new = new

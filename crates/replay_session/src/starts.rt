@@ -1,6 +1,6 @@
 // The starts of a registry and of a router in a script: an accepted one replaces its own of the two, and a refused one leaves both.
 ghost use mathlib.Core.Path.{_≡_};
-ghost use Rattle.replay_session.specs.Starts.{registryKept, startedRegistry, startNumber, routerKept, startedRouter, firstCounter};
+ghost use Rattle.replay_session.specs.Starts.{registryKept, startedRegistry, routerKept, startedRouter, firstCounter};
 use composition_state::error::Outcome;
 use composition_state::error::number;
 use composition_state::registry::CompositionLimits;
@@ -9,6 +9,7 @@ use counter::step::Counter;
 use handles::handle::GenerationalHandle;
 use input_router::router::PlatformInputRouter;
 use input_router::router::StartOutcome;
+use input_router::router::start_number;
 use script_calls::script_call::Start;
 
 pub struct Started {
@@ -50,17 +51,6 @@ pub fn start_registry(counter: Counter, given: Start) -> Started
     Started {
         number: number(outcome),
         counter: after,
-    }
-}
-
-// Document 01's number of a router's start.
-fn start_number(outcome: StartOutcome) -> u64
-    ensures { λ r. ⌜ r ≡ startNumber outcome ⌝ }
-{
-    match outcome {
-        StartOutcome::Accepted => 0,
-        StartOutcome::Capacity => 40,
-        StartOutcome::PortLimit => 41,
     }
 }
 

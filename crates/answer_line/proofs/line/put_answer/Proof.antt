@@ -5,7 +5,7 @@ use Rattle.answer_columns.specs.Pieces.{putAll}
 use Rattle.answer_more.specs.More.{moreOf}
 use Rattle.answer_numbers.specs.declared.sink.SinkKind.the-variants.{Column}
 use Rattle.answer_more.specs.Place.{morePlaced}
-use Rattle.answer_line.specs.Named.{handleFor, namedPieces}
+use Rattle.answer_columns.specs.Named.{handleFor, namedPieces}
 use Rattle.answer_line.proofs.line.put_answer.Statement.{statement}
 use Rattle.answer_line.proofs.line.put_answer.Tie as tie
 

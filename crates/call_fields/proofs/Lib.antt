@@ -1,0 +1,3 @@
+pub mod SignLaws
+pub mod ChoiceLaws
+pub mod NarrowLaws

@@ -1,0 +1,4 @@
+pub mod Narrow
+pub mod PanelChoices
+pub mod EventChoices
+pub mod Groups

@@ -1,0 +1,4 @@
+pub mod Geometries
+pub mod Moves
+pub mod Forms
+pub mod Claims

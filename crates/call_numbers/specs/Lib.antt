@@ -1,0 +1,12 @@
+pub mod Words
+pub mod Geometries
+pub mod Panels
+pub mod Inputs
+pub mod Shortcuts
+pub mod Arbitrations
+pub mod Payloads
+pub mod Events
+pub mod Reads
+pub mod Calls
+pub mod Fits
+pub mod Claims

@@ -1,0 +1,26 @@
+-- `nibcobalt_call` meets its contract: the walk over two lent structs and a lent buffer, at the types of a counter's memory and a message.
+use mathlib.Core.List.{[]}
+use denote.Memory.{pointee}
+use Rattle.counter_memory.proofs.memory.CounterMemory as Memory
+use Rattle.counter_memory.proofs.memory.CounterMemory.Laws as MemoryLaws
+use Rattle.host_message.proofs.message.Message as Message
+use Rattle.host_message.proofs.message.Message.Laws as MessageLaws
+use Rattle.host_calls.specs.declared.any_call.Called.{Called}
+use Rattle.host_calls.specs.Calls.{called}
+use Rattle.host_calls.proofs.status.Status as Status
+use Rattle.host_calls.proofs.status.Status.Laws as StatusLaws
+use Rattle.host_calls.proofs.any_call.Called as Done
+use Rattle.host_calls.proofs.any_call.call.Symbol as callee
+use Rattle.host_calls.proofs.any_call.call.Met as callee-met
+use Rattle.in_place.proofs.TwoLentBuffer.{entry}
+use Rattle.host.proofs.entries.nibcobalt_call.Key as own
+use Rattle.host.proofs.entries.nibcobalt_call.Statement.{statement}
+use Rattle.host.proofs.entries.nibcobalt_call.Code as code
+
+pub nibcobalt-call-spec : {M : Type 1} → statement M
+unfolding code.routine
+nibcobalt-call-spec 𝓤 H 𝓜 𝓖 𝓡 =
+    entry Memory.the-type Message.the-type Status.the-type MemoryLaws.the-laws MessageLaws.the-laws StatusLaws.the-laws MemoryLaws.the-plain MessageLaws.the-plain StatusLaws.the-plain
+    MemoryLaws.lowers MessageLaws.lowers StatusLaws.lowers (Done.the-type .name) Called (λ r. r .status) (λ r. r .memory) (λ r. r .message) (Done.the-type .to-one)
+    [] (λ g h l x. called g h l)
+    𝓤 H 𝓜 𝓖 𝓡 code.env own.name callee.name (pointee (Memory.the-row .written)) (pointee (Message.the-row .written)) callee.routine (code.unfolded 𝓤 H 𝓜 𝓡) code.calls-host-calls·any-call·call (callee-met.met 𝓤 H 𝓜 𝓖 𝓡)

@@ -1,0 +1,5 @@
+pub mod Status
+pub mod Fresh
+pub mod Calls
+pub mod Routes
+pub mod Claims

@@ -1,0 +1,4 @@
+pub mod Hits
+pub mod Registrations
+pub mod Messages
+pub mod Claims
