@@ -4,17 +4,18 @@ use mathlib.Core.List.{[]}
 use mathlib.Core.Path.{_≡_, refl}
 use Rattle.lists.specs.Tables.{packed}
 use Rattle.lists.proofs.ListLaws.{clash}
-use Rattle.handles.specs.declared.handle.GenerationalHandle.{GenerationalHandle}
-use Rattle.handles.specs.declared.handle.OptionalHandle.the-variants as O
+use Rattle.handles.specs.declared.GenerationalHandle.{GenerationalHandle}
+use Rattle.handles.specs.declared.OptionalHandle.the-variants as O
 use Rattle.maps.specs.declared.keys.InputDeviceId.{InputDeviceId}
-use Rattle.composition_state.specs.Errors.{isAccepted}
-use Rattle.composition_state.specs.Traces.{deliveries}
-use Rattle.composition_state.specs.declared.error.Outcome.{Outcome}
-use Rattle.composition_state.specs.declared.error.Outcome.the-variants as composition
+use Rattle.records.specs.Errors.{isAccepted}
+use Rattle.records.specs.Traces.{deliveries}
+use Rattle.records.specs.declared.error.Outcome.{Outcome}
+use Rattle.records.specs.declared.error.Outcome.the-variants as composition
 use Rattle.composition_state.specs.declared.registry.CompositionRegistry.{CompositionRegistry}
 use Rattle.composition_input.specs.declared.answer.CapturesReleased.{CapturesReleased}
 use Rattle.composition_input.specs.declared.answer.Suspended.{Suspended}
-use Rattle.composition_input.specs.Captures.{captureList, releaseDevicePointerCaptures}
+use Rattle.release_lists.specs.Captures.{captureList}
+use Rattle.composition_input.specs.Captures.{releaseDevicePointerCaptures}
 use Rattle.composition_input.specs.Focus.{suspendViewInput}
 use Rattle.composition_arbitration.specs.declared.arbitrate.Arbitrated.{Arbitrated}
 use Rattle.composition_arbitration.specs.Arbitration.{concluded, arbitrated}
@@ -24,12 +25,12 @@ use Rattle.input_events.specs.declared.error.RouterOutcome.the-variants.{Accept
 use Rattle.input_events.specs.declared.event.PlatformInputEvent.{PlatformInputEvent}
 use Rattle.input_events.specs.ArbitrationEvents.{arbitrationEvent, isLoss, isDisconnect}
 use Rattle.input_events.specs.RouterErrors.{isRouterAccepted, routerRefusalIf, fromComposition}
-use Rattle.input_router.specs.declared.release_list.Releases.{Releases}
+use Rattle.release_lists.specs.declared.releases.Releases.{Releases}
 use Rattle.input_router.specs.declared.releases.Released.{Released}
 use Rattle.input_router.specs.declared.view_releases.ViewReleased.{ViewReleased}
 use Rattle.input_router.specs.declared.router.PlatformInputRouter.{PlatformInputRouter}
 use Rattle.input_router.specs.Damage.{isRouterSound}
-use Rattle.input_router.specs.ReleaseLists.{releases}
+use Rattle.release_lists.specs.Releases.{releases}
 use Rattle.input_router.specs.Releases.{releaseSurface, releaseAll}
 use Rattle.input_router.specs.ViewReleases.{releaseView}
 use Rattle.input_releases.specs.declared.answer.Routed.{Routed}

@@ -8,10 +8,10 @@ use lib.ListN.{length, take, drop, length-append, take-append-drop}
 use lib.Seq.{length-paste, take-length}
 use borrow.Author.Tests.{le-leb}
 use Rattle.lists.proofs.TableLaws.{entries-packed}
-use Rattle.composition_state.specs.Traces.{deliveries}
-use Rattle.composition_input.specs.Captures.{captureList}
+use Rattle.records.specs.Traces.{deliveries}
+use Rattle.release_lists.specs.Captures.{captureList}
 use Rattle.input_events.specs.RouterErrors.{routerNumberOf}
-use Rattle.input_router.specs.ReleaseLists.{releases}
+use Rattle.release_lists.specs.Releases.{releases}
 use Rattle.answer.specs.Put.{over, put}
 use Rattle.answer.proofs.PutLaws.{put-yes}
 use Rattle.answer.proofs.ClaimLaws as text

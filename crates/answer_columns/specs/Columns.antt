@@ -9,14 +9,14 @@ use Rattle.maps.specs.declared.bindings.Binding.{Binding}
 use Rattle.maps.specs.declared.captures.Capture.{Capture}
 use Rattle.maps.specs.declared.keys.BindingKey.{BindingKey}
 use Rattle.maps.specs.declared.keys.BindingKey.the-variants.{Pointer, Key, Gamepad}
-use Rattle.composition_state.specs.declared.trace.InputDelivery.{InputDelivery}
-use Rattle.composition_state.specs.Traces.{deliveries}
-use Rattle.composition_input.specs.declared.answer.CaptureList.{CaptureList}
-use Rattle.composition_input.specs.Captures.{captureList}
+use Rattle.records.specs.declared.trace.InputDelivery.{InputDelivery}
+use Rattle.records.specs.Traces.{deliveries}
+use Rattle.release_lists.specs.declared.captures.CaptureList.{CaptureList}
+use Rattle.release_lists.specs.Captures.{captureList}
 use Rattle.composition_arbitration.specs.declared.arbitrate.ArbitrationResult.{ArbitrationResult}
 use Rattle.input_events.specs.RouterErrors.{routerNumberOf}
-use Rattle.input_router.specs.declared.release_list.Releases.{Releases}
-use Rattle.input_router.specs.ReleaseLists.{releases, captureRelease}
+use Rattle.release_lists.specs.declared.releases.Releases.{Releases}
+use Rattle.release_lists.specs.Releases.{releases, captureRelease}
 use Rattle.counter.specs.declared.answer.Answer.{Answer}
 use Rattle.answer_columns.specs.Pieces.{spacePieces, cellPieces, pairPieces, triplePieces, handlePieces, optionalPieces, listPieces}
 

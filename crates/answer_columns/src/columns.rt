@@ -27,10 +27,9 @@ fn put_arbitration(out: &mut [u8], at: usize, arbitration: ArbitrationResult) ->
     ensures { λ r. ⌜ _≡_ {A = List ℕ × ℕ} (now (out .exit), r) (putAll (arbitrationPieces arbitration) (now (out .entry), at)) ⌝ }
 {
     let consumer = arbitration.consumed_by;
-    let deliveries = arbitration.deliveries;
     let a = put_optional_handle(out, at, consumer);
     let b = put_space(out, a);
-    put_deliveries(out, b, deliveries)
+    put_deliveries(out, b, arbitration.deliveries)
 }
 
 // The number of the call, the answer, the revision after the call, the consumer, the deliveries and the releases.
@@ -38,13 +37,13 @@ pub fn put_columns(out: &mut [u8], at: usize, calls: u64, revision: u64, answer:
     ensures { λ r. ⌜ _≡_ {A = List ℕ × ℕ} (now (out .exit), r) (putAll (columnPieces calls revision answer) (now (out .entry), at)) ⌝ }
 {
     let outcome = answer.outcome;
-    let report = answer.report;
-    let listed = answer.listed;
-    let arbitration = report.arbitration;
-    let releases = report.synthesized_releases;
-    let captures = listed.captures;
     let a = put_numbers(out, at, calls, number(outcome), revision);
-    let b = put_arbitration(out, a, arbitration);
+    let b = put_arbitration(out, a, answer.report.arbitration);
     let c = put_space(out, b);
-    put_releases(out, c, releases, captures)
+    put_releases(
+        out,
+        c,
+        answer.report.synthesized_releases,
+        answer.listed.captures,
+    )
 }

@@ -4,22 +4,21 @@ ghost use mathlib.Core.List.{List, _++_};
 ghost use Prim.Native.Nat.{ℕ};
 ghost use lib.ListN.{length};
 ghost use Rattle.lists.specs.Tables.{entriesOf};
-ghost use Rattle.composition_state.specs.Traces.{deliveries as deliveryTable};
+ghost use Rattle.records.specs.Traces.{deliveries as deliveryTable};
 ghost use Rattle.answer_columns.specs.Pieces.{putAll, commaPieces, listPieces};
 ghost use Rattle.answer_columns.specs.Columns.{deliveryPieces};
 use crate::pieces::put_comma;
 use crate::pieces::put_handle;
 use crate::pieces::put_none;
 use answer::put::put_byte;
-use composition_state::trace::Deliveries;
-use composition_state::trace::InputDelivery;
+use records::trace::Deliveries;
+use records::trace::InputDelivery;
 
 // An observed delivery has an `o` behind it.
 fn put_delivery(out: &mut [u8], at: usize, delivery: InputDelivery) -> usize
     ensures { λ r. ⌜ _≡_ {A = List ℕ × ℕ} (now (out .exit), r) (putAll (deliveryPieces delivery) (now (out .entry), at)) ⌝ }
 {
-    let surface = delivery.surface;
-    let end = put_handle(out, at, surface);
+    let end = put_handle(out, at, delivery.surface);
     if delivery.observed {
         return put_byte(out, end, b'o');
     }

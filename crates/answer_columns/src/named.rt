@@ -10,8 +10,8 @@ use calls::call::Call;
 use calls::call::CloseCall;
 use calls::call::InputCall;
 use calls::call::RouterCall;
-use handles::handle::GenerationalHandle;
-use handles::handle::OptionalHandle;
+use handles::GenerationalHandle;
+use handles::OptionalHandle;
 use input_events::error::RouterOutcome;
 use input_releases::answer::RouteKind;
 use read_step::answer::Shown;
@@ -62,8 +62,7 @@ fn router_handle(call: RouterCall, kind: RouteKind) -> OptionalHandle
 {
     match call {
         RouterCall::Route(event) => {
-            let header = event.header;
-            let view = header.view;
+            let view = event.header.view;
             lost_view(kind, view)
         }
         RouterCall::ReleaseSurface(_) => OptionalHandle::None,

@@ -6,8 +6,8 @@ ghost use Rattle.answer_columns.specs.Pieces.{putAll, nonePieces, spaceP
 use answer::put::put_byte;
 use answer::put::put_pair;
 use answer::put::put_u64;
-use handles::handle::GenerationalHandle;
-use handles::handle::OptionalHandle;
+use handles::GenerationalHandle;
+use handles::OptionalHandle;
 
 // A `-`, which is none.
 pub fn put_none(out: &mut [u8], at: usize) -> usize

@@ -2,10 +2,9 @@
 ghost use mathlib.Core.Path.{_≡_};
 ghost use mathlib.Core.List.{List, _++_};
 ghost use Prim.Native.Nat.{ℕ};
-ghost use lib.ListN.{length};
 ghost use Rattle.lists.specs.Tables.{entriesOf};
-ghost use Rattle.composition_input.specs.Captures.{captureList};
-ghost use Rattle.input_router.specs.ReleaseLists.{releases, captureRelease};
+ghost use Rattle.release_lists.specs.Captures.{captureList};
+ghost use Rattle.release_lists.specs.Releases.{releases, captureRelease};
 ghost use Rattle.answer_columns.specs.Pieces.{putAll, triplePieces, commaPieces, entryPieces, listPieces};
 ghost use Rattle.answer_columns.specs.Columns.{keyPieces, releasePieces, capturePieces, releasesColumn};
 use crate::pieces::put_comma;
@@ -15,11 +14,11 @@ use answer::put::put_byte;
 use answer::put::put_bytes;
 use answer::put::put_pair;
 use answer::put::put_u64;
-use composition_input::answer::CaptureList;
-use input_router::release_list::Releases;
 use maps::bindings::Binding;
 use maps::captures::Capture;
 use maps::keys::BindingKey;
+use release_lists::captures::CaptureList;
+use release_lists::releases::Releases;
 
 // Three numbers with dots between.
 fn put_triple(out: &mut [u8], at: usize, m: u64, n: u64, k: u64) -> usize
@@ -46,13 +45,12 @@ fn put_key(out: &mut [u8], at: usize, key: BindingKey) -> usize
             )
         }
         BindingKey::Key(k) => {
-            let device = k.device;
             let next = put_bytes(out, at, b"K");
             put_triple(
                 out,
                 next,
-                device.value,
-                device.generation as u64,
+                k.device.value,
+                k.device.generation as u64,
                 k.physical_key as u64,
             )
         }
@@ -67,10 +65,9 @@ fn put_release(out: &mut [u8], at: usize, release: Binding) -> usize
     ensures { λ r. ⌜ _≡_ {A = List ℕ × ℕ} (now (out .exit), r) (putAll (releasePieces release) (now (out .entry), at)) ⌝ }
 {
     let key = release.key;
-    let surface = release.surface;
     let end = put_key(out, at, key);
     let next = put_byte(out, end, b'@');
-    put_handle(out, next, surface)
+    put_handle(out, next, release.surface)
 }
 
 fn put_next_release(out: &mut [u8], at: usize, i: usize, release: Binding) -> usize
@@ -108,22 +105,11 @@ fn capture_release(capture: Capture) -> Binding
     Binding { key, surface }
 }
 
-// How many captures are listed: a stored count past the table is read as a full table.
-pub fn count_captures(captures: CaptureList) -> usize
-    ensures { λ r. ⌜ r ≡ length (entriesOf captureList captures) ⌝ }
-{
-    let n = captures.len;
-    if n < 512 {
-        return n;
-    }
-    512
-}
-
 // The captures of a device, of which there is one at least.
 fn put_captures(out: &mut [u8], at: usize, captures: CaptureList) -> usize
     ensures { λ r. ⌜ _≡_ {A = List ℕ × ℕ} (now (out .exit), r) (putAll (entryPieces capturePieces (entriesOf captureList captures)) (now (out .entry), at)) ⌝ }
 {
-    let n = count_captures(captures);
+    let n = captures.count();
     let mut next = at;
     let mut i = 0;
     while i < n {
@@ -138,7 +124,7 @@ fn put_captures(out: &mut [u8], at: usize, captures: CaptureList) -> usize
 pub fn put_releases(out: &mut [u8], at: usize, listed: Releases, captures: CaptureList) -> usize
     ensures { λ r. ⌜ _≡_ {A = List ℕ × ℕ} (now (out .exit), r) (putAll (releasesColumn listed captures) (now (out .entry), at)) ⌝ }
 {
-    if count_captures(captures) == 0 {
+    if captures.count() == 0 {
         return put_listed(out, at, listed);
     }
     put_captures(out, at, captures)

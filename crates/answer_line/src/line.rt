@@ -29,8 +29,7 @@ pub fn put_answer(out: &mut [u8], calls: u64, call: Call, answer: Answer, counte
     let kind = report.kind;
     let read = answer.read;
     let shown = read.shown;
-    let registry = counter.registry;
-    let a = put_columns(out, 0, calls, registry.revision, answer);
+    let a = put_columns(out, 0, calls, counter.registry.revision, answer);
     let b = put_named(out, a, named_handle(outcome, call, handle, kind, shown));
     put_more(out, b, SinkKind::Column, call, answer, counter)
 }
@@ -48,10 +47,8 @@ pub fn put_end(out: &mut [u8], at: usize, counter: Counter, are_shown: bool) -> 
     ensures { λ r. ⌜ _≡_ {A = List ℕ × ℕ} (now (out .exit), r) (putAll (endPieces counter «are_shown») (now (out .entry), at)) ⌝ }
 {
     if are_shown {
-        let registry = counter.registry;
-        let router = counter.router;
-        let a = put_digest(out, at, registry_digest(registry));
-        let b = put_digest(out, a, router_digest(router));
+        let a = put_digest(out, at, registry_digest(counter.registry));
+        let b = put_digest(out, a, router_digest(counter.router));
         return put_byte(out, b, b'\n');
     }
     put_byte(out, at, b'\n')

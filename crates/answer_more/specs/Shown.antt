@@ -7,7 +7,7 @@ use Rattle.lists.specs.Tables.{entriesOf}
 use Rattle.geometry.specs.declared.transform.LocalPoint.{LocalPoint}
 use Rattle.geometry.specs.declared.transform.LocalPoint.the-variants.{At, Skipped}
 use Rattle.geometry.specs.declared.transform.Point.{Point}
-use Rattle.composition_state.specs.Views.{viewAt}
+use Rattle.records.specs.Views.{viewAt}
 use Rattle.composition_state.specs.declared.registry.CompositionRegistry.{CompositionRegistry}
 use Rattle.read_step.specs.Reads.{hitTable}
 use Rattle.read_step.specs.declared.answer.Counts.{Counts}

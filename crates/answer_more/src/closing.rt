@@ -64,9 +64,8 @@ fn take_releases(out: &mut [u8], sink: Sink, list: SurfaceReleases) -> Sink
 fn take_closed(out: &mut [u8], sink: Sink, report: SurfaceCloseReport) -> Sink
     ensures { λ r. ⌜ _≡_ {A = List ℕ × Sink} (now (out .exit), r) (numbersTaken (closeNumbers report) (now (out .entry), sink)) ⌝ }
 {
-    let list = report.releases;
     let restored = report.restored_focus;
-    let next = take_releases(out, sink, list);
+    let next = take_releases(out, sink, report.releases);
     take_optional(out, next, restored)
 }
 
@@ -74,8 +73,7 @@ fn take_closed(out: &mut [u8], sink: Sink, report: SurfaceCloseReport) -> Sink
 fn take_report(out: &mut [u8], sink: Sink, report: SurfaceCloseReport) -> Sink
     ensures { λ r. ⌜ _≡_ {A = List ℕ × Sink} (now (out .exit), r) (numbersTaken (reportNumbers report) (now (out .entry), sink)) ⌝ }
 {
-    let surface = report.surface;
-    let a = take_handle(out, sink, surface);
+    let a = take_handle(out, sink, report.surface);
     let b = take_closed(out, a, report);
     take_plain(out, b, report.revision)
 }
@@ -108,12 +106,9 @@ fn take_reports(out: &mut [u8], sink: Sink, list: CloseReports) -> Sink
 fn take_shutdown(out: &mut [u8], sink: Sink, report: CompositionShutdownReport) -> Sink
     ensures { λ r. ⌜ _≡_ {A = List ℕ × Sink} (now (out .exit), r) (numbersTaken (shutdownNumbers report) (now (out .entry), sink)) ⌝ }
 {
-    let surfaces = report.closed_surfaces;
-    let views = report.closed_views;
-    let windows = report.closed_windows;
-    let a = take_reports(out, sink, surfaces);
-    let b = take_handles(out, a, views);
-    take_handles(out, b, windows)
+    let a = take_reports(out, sink, report.closed_surfaces);
+    let b = take_handles(out, a, report.closed_views);
+    take_handles(out, b, report.closed_windows)
 }
 
 pub fn put_closing(

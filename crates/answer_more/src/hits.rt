@@ -46,8 +46,7 @@ pub fn take_hit_numbers(out: &mut [u8], sink: Sink, hits: HitNumbers) -> Sink
 pub fn take_shown_counts(out: &mut [u8], sink: Sink, counts: Counts) -> Sink
     ensures { λ r. ⌜ _≡_ {A = List ℕ × Sink} (now (out .exit), r) (numbersTaken (shownCounts counts) (now (out .entry), sink)) ⌝ }
 {
-    let session = counts.session;
-    let a = take_handle(out, sink, session);
+    let a = take_handle(out, sink, counts.session);
     let b = take_plain(out, a, counts.session_epoch);
     let c = take_plain(out, b, counts.revision);
     let d = take_count(out, c, counts.windows);

@@ -135,10 +135,14 @@ pub fn put_more(
         Call::Shortcut(_) => put_none(out, at, sink_kind),
         Call::Arbitrate(_) => put_none(out, at, sink_kind),
         Call::Close(which) => {
-            let listed = answer.listed;
-            let closed = listed.closed;
-            let shutdown = listed.shutdown;
-            put_closing(out, at, sink_kind, which, closed, shutdown)
+            put_closing(
+                out,
+                at,
+                sink_kind,
+                which,
+                answer.listed.closed,
+                answer.listed.shutdown,
+            )
         }
         Call::Router(which) => {
             let report = answer.report;
@@ -149,9 +153,7 @@ pub fn put_more(
         Call::Read(_) => {
             let read = answer.read;
             let shown = read.shown;
-            let hits = read.hits;
-            let registry = counter.registry;
-            put_shown(out, at, sink_kind, shown, hits, registry)
+            put_shown(out, at, sink_kind, shown, read.hits, counter.registry)
         }
     }
 }

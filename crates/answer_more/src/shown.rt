@@ -2,7 +2,7 @@
 ghost use Prim.Native.Nat.{ℕ};
 ghost use mathlib.Core.List.{List};
 ghost use mathlib.Core.Path.{_≡_};
-ghost use Rattle.composition_state.specs.Views.{viewAt};
+ghost use Rattle.records.specs.Views.{viewAt};
 ghost use Rattle.answer_numbers.specs.declared.sink.Sink.{Sink};
 ghost use Rattle.answer_numbers.specs.Numbers.{numbersTaken};
 ghost use Rattle.registry_dump.specs.Views.{capturesNumbers, viewLayersNumbers};
@@ -20,11 +20,11 @@ use answer_numbers::sink::SinkKind;
 use answer_numbers::sink::sink_from;
 use answer_numbers::sink::take_plain;
 use composition_state::registry::CompositionRegistry;
-use composition_state::surface::SurfaceTable;
-use composition_state::view::ViewTable;
-use handles::handle::GenerationalHandle;
+use handles::GenerationalHandle;
 use read_step::answer::Shown;
 use read_step::hits::HitNumbers;
+use records::surface::SurfaceTable;
+use records::view::ViewTable;
 use registry_dump::traces::take_traces;
 use registry_dump::views::take_captures;
 use registry_dump::views::take_view_layers;
@@ -75,8 +75,7 @@ pub fn put_shown(
             end.at
         }
         Shown::Captures(view) => {
-            let views = registry.views;
-            let end = take_captures_of(out, sink, views, view);
+            let end = take_captures_of(out, sink, registry.views, view);
             end.at
         }
         Shown::Descriptor(descriptor) => {
@@ -84,14 +83,11 @@ pub fn put_shown(
             end.at
         }
         Shown::Layers(view) => {
-            let views = registry.views;
-            let surfaces = registry.surfaces;
-            let end = take_layers_of(out, sink, views, surfaces, view);
+            let end = take_layers_of(out, sink, registry.views, registry.surfaces, view);
             end.at
         }
         Shown::Traces => {
-            let traces = registry.traces;
-            let end = take_traces(out, sink, traces);
+            let end = take_traces(out, sink, registry.traces);
             end.at
         }
         Shown::Counts(counts) => {

@@ -1,9 +1,9 @@
 -- The groups of numbers of the format: handles, pointers, rectangles, metrics, input states, descriptors.
 use Prim.Native.Nat.{ℕ}
 use mathlib.Core.List.{List, [], _∷_, _++_}
-use Rattle.handles.specs.declared.handle.GenerationalHandle.{GenerationalHandle}
-use Rattle.handles.specs.declared.handle.OptionalHandle.{OptionalHandle}
-use Rattle.handles.specs.declared.handle.OptionalHandle.the-variants as O
+use Rattle.handles.specs.declared.GenerationalHandle.{GenerationalHandle}
+use Rattle.handles.specs.declared.OptionalHandle.{OptionalHandle}
+use Rattle.handles.specs.declared.OptionalHandle.the-variants as O
 use Rattle.maps.specs.declared.keys.CompositionPointerId.{CompositionPointerId}
 use Rattle.maps.specs.declared.captures.Capture.{Capture}
 use Rattle.geometry.specs.declared.metrics.ViewInsets.{ViewInsets}
@@ -14,12 +14,12 @@ use Rattle.geometry.specs.declared.rect.OptionalRect.{OptionalRect}
 use Rattle.geometry.specs.declared.rect.OptionalRect.the-variants as R
 use Rattle.geometry.specs.declared.surface.SurfaceGeometry.{SurfaceGeometry}
 use Rattle.geometry.specs.declared.transform.SurfaceTransform.{SurfaceTransform}
-use Rattle.composition_state.specs.declared.surface.SurfaceDescriptor.{SurfaceDescriptor}
-use Rattle.composition_state.specs.declared.surface.SurfaceKind.{SurfaceKind}
-use Rattle.composition_state.specs.declared.surface.SurfaceKind.the-variants.{Game, Ui, Diagnostics}
-use Rattle.composition_state.specs.declared.surface.SurfaceInputPolicy.{SurfaceInputPolicy}
-use Rattle.composition_state.specs.declared.surface.SurfaceInputPolicy.the-variants.{Observe, Passthrough, Interactive, Exclusive}
-use Rattle.composition_state.specs.declared.view.ViewInputState.{ViewInputState}
+use Rattle.records.specs.declared.surface.SurfaceDescriptor.{SurfaceDescriptor}
+use Rattle.records.specs.declared.surface.SurfaceKind.{SurfaceKind}
+use Rattle.records.specs.declared.surface.SurfaceKind.the-variants.{Game, Ui, Diagnostics}
+use Rattle.records.specs.declared.surface.SurfaceInputPolicy.{SurfaceInputPolicy}
+use Rattle.records.specs.declared.surface.SurfaceInputPolicy.the-variants.{Observe, Passthrough, Interactive, Exclusive}
+use Rattle.records.specs.declared.view.ViewInputState.{ViewInputState}
 use Rattle.answer_numbers.specs.Numbers.{Number, plain, signed, flag}
 
 -- H: index, generation

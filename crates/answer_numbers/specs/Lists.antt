@@ -3,8 +3,8 @@ use mathlib.Core.List.{List}
 use Rattle.lists.specs.Tables.{entriesOf}
 use Rattle.handles.specs.Slots.{handlesTable}
 use Rattle.handles.specs.declared.arena.Handles.{Handles}
-use Rattle.composition_state.specs.Layers.{layers}
-use Rattle.composition_state.specs.declared.layers.Layers.{Layers}
+use Rattle.records.specs.Layers.{layers}
+use Rattle.records.specs.declared.layers.Layers.{Layers}
 use Rattle.answer_numbers.specs.Numbers.{Number, listNumbers}
 use Rattle.answer_numbers.specs.Groups.{handleNumbers}
 

@@ -11,10 +11,6 @@ use crate::sink::take_flag;
 use crate::sink::take_plain;
 use crate::sink::take_signed;
 use crate::sink::take_u32;
-use composition_state::surface::SurfaceDescriptor;
-use composition_state::surface::SurfaceInputPolicy;
-use composition_state::surface::SurfaceKind;
-use composition_state::view::ViewInputState;
 use geometry::metrics::ViewInsets;
 use geometry::metrics::ViewMetrics;
 use geometry::metrics::ViewVisibility;
@@ -22,10 +18,14 @@ use geometry::rect::OptionalRect;
 use geometry::rect::SurfaceRect;
 use geometry::surface::SurfaceGeometry;
 use geometry::transform::SurfaceTransform;
-use handles::handle::GenerationalHandle;
-use handles::handle::OptionalHandle;
+use handles::GenerationalHandle;
+use handles::OptionalHandle;
 use maps::captures::Capture;
 use maps::keys::CompositionPointerId;
+use records::surface::SurfaceDescriptor;
+use records::surface::SurfaceInputPolicy;
+use records::surface::SurfaceKind;
+use records::view::ViewInputState;
 
 // H: index, generation.
 pub fn take_handle(out: &mut [u8], sink: Sink, h: GenerationalHandle) -> Sink

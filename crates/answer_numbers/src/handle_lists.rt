@@ -11,8 +11,8 @@ ghost use Rattle.answer_numbers.specs.Lists.{layersNumbers, handlesNumbe
 use crate::groups::take_handle;
 use crate::sink::Sink;
 use crate::sink::take_count;
-use composition_state::layers::Layers;
 use handles::arena::Handles;
+use records::layers::Layers;
 
 // The layers of a view, lowest first.
 pub fn take_layers(out: &mut [u8], sink: Sink, layers: Layers) -> Sink

@@ -1,16 +1,16 @@
 -- The answer of a call as numbers for a host: what `replay` shows in its columns 2 to 8, with how many entries stand before each list.
 use Prim.Native.Nat.{ℕ}
-use mathlib.Core.List.{List, [], _∷_, _++_}
+use mathlib.Core.List.{List, _∷_, _++_}
 use Rattle.lists.specs.Tables.{entriesOf}
-use Rattle.handles.specs.declared.handle.OptionalHandle.{OptionalHandle}
+use Rattle.handles.specs.declared.OptionalHandle.{OptionalHandle}
 use Rattle.maps.specs.Bindings.{keyOfBinding}
 use Rattle.maps.specs.declared.bindings.Binding.{Binding}
-use Rattle.composition_input.specs.Captures.{captureList}
-use Rattle.composition_input.specs.declared.answer.CaptureList.{CaptureList}
+use Rattle.release_lists.specs.Captures.{captureList}
+use Rattle.release_lists.specs.declared.captures.CaptureList.{CaptureList}
 use Rattle.composition_arbitration.specs.declared.arbitrate.ArbitrationResult.{ArbitrationResult}
 use Rattle.input_events.specs.RouterErrors.{routerNumberOf}
-use Rattle.input_router.specs.declared.release_list.Releases.{Releases}
-use Rattle.input_router.specs.ReleaseLists.{releases}
+use Rattle.release_lists.specs.declared.releases.Releases.{Releases}
+use Rattle.release_lists.specs.Releases.{releases}
 use Rattle.calls.specs.declared.call.Call.{Call}
 use Rattle.counter.specs.declared.answer.Answer.{Answer}
 use Rattle.counter.specs.declared.step.Counter.{Counter}

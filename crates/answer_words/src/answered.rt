@@ -18,7 +18,7 @@ use calls::call::Call;
 use composition_arbitration::arbitrate::ArbitrationResult;
 use counter::answer::Answer;
 use counter::step::Counter;
-use handles::handle::OptionalHandle;
+use handles::OptionalHandle;
 use input_events::error::number;
 use registry_dump::traces::take_deliveries;
 
@@ -26,9 +26,8 @@ fn take_arbitration(out: &mut [u8], sink: Sink, result: ArbitrationResult) -> Si
     ensures { λ r. ⌜ _≡_ {A = List ℕ × Sink} (now (out .exit), r) (numbersTaken (arbitrationNumbers result) (now (out .entry), sink)) ⌝ }
 {
     let consumer = result.consumed_by;
-    let deliveries = result.deliveries;
     let next = take_optional(out, sink, consumer);
-    take_deliveries(out, next, deliveries)
+    take_deliveries(out, next, result.deliveries)
 }
 
 // The number, the revision, the arbitration, the releases, the captures and the handle that it names.
@@ -42,16 +41,11 @@ fn take_answer(
     ensures { λ r. ⌜ _≡_ {A = List ℕ × Sink} (now (out .exit), r) (numbersTaken (answerNumbers revision answer named) (now (out .entry), sink)) ⌝ }
 {
     let outcome = answer.outcome;
-    let report = answer.report;
-    let listed = answer.listed;
-    let arbitration = report.arbitration;
-    let releases = report.synthesized_releases;
-    let captures = listed.captures;
     let a = take_plain(out, sink, number(outcome));
     let b = take_plain(out, a, revision);
-    let c = take_arbitration(out, b, arbitration);
-    let d = take_releases(out, c, releases);
-    let e = take_captures(out, d, captures);
+    let c = take_arbitration(out, b, answer.report.arbitration);
+    let d = take_releases(out, c, answer.report.synthesized_releases);
+    let e = take_captures(out, d, answer.listed.captures);
     take_optional(out, e, named)
 }
 
@@ -66,12 +60,11 @@ pub fn put_answer(out: &mut [u8], call: Call, answer: Answer, counter: Counter) 
     let kind = report.kind;
     let read = answer.read;
     let shown = read.shown;
-    let registry = counter.registry;
     let named = named_handle(outcome, call, handle, kind, shown);
     let end = take_answer(
         out,
         sink_from(SinkKind::Words, 0),
-        registry.revision,
+        counter.registry.revision,
         answer,
         named,
     );

@@ -5,15 +5,14 @@ ghost use mathlib.Core.Path.{_≡_};
 ghost use Rattle.answer_numbers.specs.declared.sink.Sink.{Sink};
 ghost use Rattle.answer_numbers.specs.Numbers.{numbersTaken};
 ghost use Rattle.answer_words.specs.Answers.{releaseNumbers, releasesNumbers, capturesNumbers};
-use answer_columns::released::count_captures;
 use answer_numbers::groups::take_capture;
 use answer_numbers::sink::Sink;
 use answer_numbers::sink::take_count;
 use answer_numbers::sink::take_u32;
-use composition_input::answer::CaptureList;
-use input_router::release_list::Releases;
 use maps::bindings::Binding;
 use maps::keys::binding_key;
+use release_lists::captures::CaptureList;
+use release_lists::releases::Releases;
 use router_dump::presses::take_press;
 
 // What is released, then the press with its panel.
@@ -43,7 +42,7 @@ pub fn take_releases(out: &mut [u8], sink: Sink, list: Releases) -> Sink
 pub fn take_captures(out: &mut [u8], sink: Sink, list: CaptureList) -> Sink
     ensures { λ r. ⌜ _≡_ {A = List ℕ × Sink} (now (out .exit), r) (numbersTaken (capturesNumbers list) (now (out .entry), sink)) ⌝ }
 {
-    let n = count_captures(list);
+    let n = list.count();
     let mut next = take_count(out, sink, n);
     let mut i = 0;
     while i < n {

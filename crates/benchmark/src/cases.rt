@@ -38,17 +38,32 @@ pub fn named(word: &[u8]) -> Case {
     }
 }
 
+fn panels_of(case: Case) -> u64 {
+    match case {
+        Case::Move3 => 3,
+        Case::Move16 => 16,
+        Case::Press3 => 3,
+        Case::Press16 => 16,
+        Case::Hit16 => 16,
+        Case::DisconnectPresses => 3,
+        Case::DisconnectCaptures => 1,
+        Case::Panel => 3,
+        Case::Unknown => 0,
+    }
+}
+
 // The turns of a case, on a counter that is opened for it.
 pub fn run(case: Case, turns: u64) -> Tally {
+    let opened = open(panels_of(case));
     match case {
-        Case::Move3 => route_turns(open(3), Gesture::Moves, turns),
-        Case::Move16 => route_turns(open(16), Gesture::Moves, turns),
-        Case::Press3 => route_turns(open(3), Gesture::Presses, turns),
-        Case::Press16 => route_turns(open(16), Gesture::Presses, turns),
-        Case::Hit16 => hit_turns(open(16), turns),
-        Case::DisconnectPresses => disconnect_turns(with_presses(open(3)), turns),
-        Case::DisconnectCaptures => disconnect_turns(with_captures(open(1)), turns),
-        Case::Panel => close_turns(open(3), turns),
+        Case::Move3 => route_turns(opened, Gesture::Moves, turns),
+        Case::Move16 => route_turns(opened, Gesture::Moves, turns),
+        Case::Press3 => route_turns(opened, Gesture::Presses, turns),
+        Case::Press16 => route_turns(opened, Gesture::Presses, turns),
+        Case::Hit16 => hit_turns(opened, turns),
+        Case::DisconnectPresses => disconnect_turns(with_presses(opened), turns),
+        Case::DisconnectCaptures => disconnect_turns(with_captures(opened), turns),
+        Case::Panel => close_turns(opened, turns),
         Case::Unknown => Tally {
             revision: 0,
             presses: 0,

@@ -6,16 +6,16 @@ use composition_panels::views::create_view;
 use composition_panels::windows::create_window;
 use composition_state::registry::CompositionLimits;
 use composition_state::registry::CompositionRegistry;
-use composition_state::surface::SurfaceDescriptor;
-use composition_state::surface::SurfaceInputPolicy;
-use composition_state::surface::SurfaceKind;
 use geometry::surface::SurfaceGeometry;
-use handles::handle::GenerationalHandle;
-use handles::handle::OptionalHandle;
+use handles::GenerationalHandle;
+use handles::OptionalHandle;
 use input_events::event::PointerPhase;
 use input_route::route::route;
 use input_router::router::PlatformInputRouter;
 use maps::keys::CompositionPointerId;
+use records::surface::SurfaceDescriptor;
+use records::surface::SurfaceInputPolicy;
+use records::surface::SurfaceKind;
 
 // What the events name.
 pub struct Places {

@@ -1,6 +1,6 @@
 // What is written of a run: numbers that depend on every call of it.
 use composition_state::registry::CompositionRegistry;
-use handles::handle::OptionalHandle;
+use handles::OptionalHandle;
 use input_releases::answer::Routed;
 use input_router::router::PlatformInputRouter;
 use std::num::wrapping_add_u64;
@@ -21,14 +21,11 @@ fn consumer_number(consumer: OptionalHandle) -> u64 {
 
 // A sum with the answer of a routed event: its revision, consumer, deliveries and releases.
 pub fn add_routed(sum: u64, routed: Routed) -> u64 {
-    let report = routed.report;
-    let arbitration = report.arbitration;
-    let deliveries = arbitration.deliveries;
+    let arbitration = routed.report.arbitration;
     let consumer = arbitration.consumed_by;
-    let releases = report.synthesized_releases;
-    let counted = wrapping_add_u64(sum, report.composition_revision);
-    let delivered = wrapping_add_u64(counted, deliveries.len as u64);
-    let released = wrapping_add_u64(delivered, releases.len as u64);
+    let counted = wrapping_add_u64(sum, routed.report.composition_revision);
+    let delivered = wrapping_add_u64(counted, arbitration.deliveries.len as u64);
+    let released = wrapping_add_u64(delivered, routed.report.synthesized_releases.len as u64);
     wrapping_add_u64(released, consumer_number(consumer))
 }
 

@@ -12,9 +12,9 @@ use crate::tally::tally_of;
 use composition_close::close::close_surface;
 use composition_hits::stack::hit_test_stack;
 use composition_panels::panels::attach_surface;
-use composition_state::surface::SurfaceInputPolicy;
 use geometry::transform::Point;
 use input_route::route::route;
+use records::surface::SurfaceInputPolicy;
 use std::num::wrapping_add_u64;
 
 // One contact's events, one a turn.

@@ -6,8 +6,8 @@ use mathlib.Core.Option.{Option, none, some}
 use Rattle.lists.specs.Lists.{keep, first}
 use Rattle.lists.specs.Maps.{insert, remove}
 use Rattle.lists.specs.Orders.{lexLt}
-use Rattle.handles.specs.declared.handle.GenerationalHandle.{GenerationalHandle}
-use Rattle.handles.specs.declared.handle.OptionalHandle.{OptionalHandle}
+use Rattle.handles.specs.declared.GenerationalHandle.{GenerationalHandle}
+use Rattle.handles.specs.declared.OptionalHandle.{OptionalHandle}
 use Rattle.handles.specs.Handles.{sameHandle, handleLt}
 use Rattle.maps.specs.declared.bindings.Binding.{Binding}
 use Rattle.maps.specs.declared.captures.Capture.{Capture}
@@ -18,7 +18,7 @@ use Rattle.maps.specs.declared.keys.MapKey.{MapKey}
 use Rattle.maps.specs.Bindings.{keyOfBinding}
 use Rattle.maps.specs.Captures.{captureKey}
 use Rattle.maps.specs.Keys.{bindingKey, pointerKey, keyLt, keySame, deviceSame}
-use Rattle.composition_state.specs.declared.trace.InputDelivery.{InputDelivery}
+use Rattle.records.specs.declared.trace.InputDelivery.{InputDelivery}
 
 -- "The book is fed arguments and answers (number, handle, consumer, deliveries), never releases or tables."
 pub record Told : Type 0 where

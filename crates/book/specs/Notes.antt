@@ -1,17 +1,17 @@
 -- Document 01, Book: what a call with its answer changes in the book. "Refused calls and those not named here change nothing."
 use mathlib.Core.Bool.{Bool, true, false, not, cond}
-use mathlib.Core.List.{List, [], _∷_}
+use mathlib.Core.List.{List, []}
 use mathlib.Core.Option.{Option, none, some}
 use lib.Dec.{eqb}
 use Rattle.lists.specs.Lists.{first}
-use Rattle.handles.specs.declared.handle.GenerationalHandle.{GenerationalHandle}
-use Rattle.handles.specs.declared.handle.OptionalHandle.{OptionalHandle}
-use Rattle.handles.specs.declared.handle.OptionalHandle.the-variants as handle
+use Rattle.handles.specs.declared.GenerationalHandle.{GenerationalHandle}
+use Rattle.handles.specs.declared.OptionalHandle.{OptionalHandle}
+use Rattle.handles.specs.declared.OptionalHandle.the-variants as handle
 use Rattle.maps.specs.declared.keys.BindingKey.{BindingKey}
 use Rattle.maps.specs.declared.keys.BindingKey.the-variants as press
 use Rattle.maps.specs.declared.keys.CompositionPointerId.{CompositionPointerId}
 use Rattle.maps.specs.declared.keys.InputDeviceId.{InputDeviceId}
-use Rattle.composition_state.specs.declared.trace.InputDelivery.{InputDelivery}
+use Rattle.records.specs.declared.trace.InputDelivery.{InputDelivery}
 use Rattle.input_events.specs.declared.event.GamepadInput.{GamepadInput}
 use Rattle.input_events.specs.declared.event.KeyInput.{KeyInput}
 use Rattle.input_events.specs.declared.event.KeyPhase.{KeyPhase}

@@ -2,14 +2,14 @@
 use mathlib.Core.Path.{_≡_, refl}
 use Rattle.call_fields.specs.PanelChoices.{surfaceKindOf, surfaceKindNumber, policyOf, policyNumber, visibilityOf, visibilityNumber, scopeOf, scopeNumber}
 use Rattle.call_fields.specs.EventChoices.{deviceKindOf, deviceKindNumber, keyPhaseOf, keyPhaseNumber, pointerPhaseOf, pointerPhaseNumber, wheelUnitOf, wheelUnitNumber, compositionPhaseOf, compositionPhaseNumber, mappingOf, mappingNumber}
-use Rattle.composition_state.specs.declared.surface.SurfaceKind.{SurfaceKind}
-use Rattle.composition_state.specs.declared.surface.SurfaceKind.the-variants as surfaceKind
-use Rattle.composition_state.specs.declared.surface.SurfaceInputPolicy.{SurfaceInputPolicy}
-use Rattle.composition_state.specs.declared.surface.SurfaceInputPolicy.the-variants as policy
+use Rattle.records.specs.declared.surface.SurfaceKind.{SurfaceKind}
+use Rattle.records.specs.declared.surface.SurfaceKind.the-variants as surfaceKind
+use Rattle.records.specs.declared.surface.SurfaceInputPolicy.{SurfaceInputPolicy}
+use Rattle.records.specs.declared.surface.SurfaceInputPolicy.the-variants as policy
 use Rattle.geometry.specs.declared.metrics.ViewVisibility.{ViewVisibility}
 use Rattle.geometry.specs.declared.metrics.ViewVisibility.the-variants as visibility
-use Rattle.composition_state.specs.declared.shortcut.ShortcutScope.{ShortcutScope}
-use Rattle.composition_state.specs.declared.shortcut.ShortcutScope.the-variants as scope
+use Rattle.records.specs.declared.shortcut.ShortcutScope.{ShortcutScope}
+use Rattle.records.specs.declared.shortcut.ShortcutScope.the-variants as scope
 use Rattle.input_events.specs.declared.event.InputDeviceKind.{InputDeviceKind}
 use Rattle.input_events.specs.declared.event.InputDeviceKind.the-variants as deviceKind
 use Rattle.input_events.specs.declared.event.KeyPhase.{KeyPhase}

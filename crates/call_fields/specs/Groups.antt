@@ -3,14 +3,14 @@ use Prim.Native.Nat.{ℕ}
 use mathlib.Core.Bool.{cond}
 use mir.Syntax.{w16, w32}
 use mir.Val.{ofZ}
-use Rattle.handles.specs.declared.handle.GenerationalHandle.{GenerationalHandle}
-use Rattle.handles.specs.declared.handle.OptionalHandle.{OptionalHandle}
-use Rattle.handles.specs.declared.handle.OptionalHandle.the-variants as handle
+use Rattle.handles.specs.declared.GenerationalHandle.{GenerationalHandle}
+use Rattle.handles.specs.declared.OptionalHandle.{OptionalHandle}
+use Rattle.handles.specs.declared.OptionalHandle.the-variants as handle
 use Rattle.maps.specs.declared.keys.CompositionPointerId.{CompositionPointerId}
 use Rattle.maps.specs.declared.keys.InputDeviceId.{InputDeviceId}
 use Rattle.geometry.specs.declared.rect.OptionalRect.{OptionalRect}
 use Rattle.geometry.specs.declared.rect.OptionalRect.the-variants as rect
-use Rattle.composition_state.specs.declared.shortcut.SurfaceShortcutRegistration.{SurfaceShortcutRegistration}
+use Rattle.records.specs.declared.shortcut.SurfaceShortcutRegistration.{SurfaceShortcutRegistration}
 use Rattle.composition_shortcuts.specs.declared.register.OptionalRegistration.{OptionalRegistration}
 use Rattle.composition_shortcuts.specs.declared.register.OptionalRegistration.the-variants as registration
 use Rattle.input_events.specs.declared.event.OptionalButton.{OptionalButton}

@@ -2,14 +2,14 @@
 use Prim.Native.Nat.{ℕ}
 use mathlib.Core.List.{List, [], _∷_}
 use lib.ListN.{getD}
-use Rattle.composition_state.specs.declared.surface.SurfaceKind.{SurfaceKind}
-use Rattle.composition_state.specs.declared.surface.SurfaceKind.the-variants as surfaceKind
-use Rattle.composition_state.specs.declared.surface.SurfaceInputPolicy.{SurfaceInputPolicy}
-use Rattle.composition_state.specs.declared.surface.SurfaceInputPolicy.the-variants as policy
+use Rattle.records.specs.declared.surface.SurfaceKind.{SurfaceKind}
+use Rattle.records.specs.declared.surface.SurfaceKind.the-variants as surfaceKind
+use Rattle.records.specs.declared.surface.SurfaceInputPolicy.{SurfaceInputPolicy}
+use Rattle.records.specs.declared.surface.SurfaceInputPolicy.the-variants as policy
 use Rattle.geometry.specs.declared.metrics.ViewVisibility.{ViewVisibility}
 use Rattle.geometry.specs.declared.metrics.ViewVisibility.the-variants as visibility
-use Rattle.composition_state.specs.declared.shortcut.ShortcutScope.{ShortcutScope}
-use Rattle.composition_state.specs.declared.shortcut.ShortcutScope.the-variants as scope
+use Rattle.records.specs.declared.shortcut.ShortcutScope.{ShortcutScope}
+use Rattle.records.specs.declared.shortcut.ShortcutScope.the-variants as scope
 
 -- a panel's kind
 abbrev pub surfaceKinds : List SurfaceKind

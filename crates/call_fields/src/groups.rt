@@ -12,14 +12,14 @@ use crate::narrow::signed_of;
 use crate::panel_choices::scope_number;
 use crate::panel_choices::scope_of;
 use composition_shortcuts::register::OptionalRegistration;
-use composition_state::shortcut::SurfaceShortcutRegistration;
 use geometry::rect::OptionalRect;
 use geometry::rect::SurfaceRect;
-use handles::handle::GenerationalHandle;
-use handles::handle::OptionalHandle;
+use handles::GenerationalHandle;
+use handles::OptionalHandle;
 use input_events::event::OptionalButton;
 use maps::keys::CompositionPointerId;
 use maps::keys::InputDeviceId;
+use records::shortcut::SurfaceShortcutRegistration;
 
 pub struct OptionalNumbers {
     pub present: u64,

@@ -1,10 +1,10 @@
 // The enums of panels, views and shortcuts, by their numbers: the declared order from 0.
 ghost use mathlib.Core.Path.{_≡_};
 ghost use Rattle.call_fields.specs.PanelChoices.{surfaceKindOf, surfaceKindNumber, policyOf, policyNumber, visibilityOf, visibilityNumber, scopeOf, scopeNumber};
-use composition_state::shortcut::ShortcutScope;
-use composition_state::surface::SurfaceInputPolicy;
-use composition_state::surface::SurfaceKind;
 use geometry::metrics::ViewVisibility;
+use records::shortcut::ShortcutScope;
+use records::surface::SurfaceInputPolicy;
+use records::surface::SurfaceKind;
 
 const SURFACE_KINDS: [SurfaceKind; 3] = [
     SurfaceKind::Game,

@@ -1,5 +1,5 @@
 -- What passes the test is what its call is written as: the two lists have 32 places and are the same at each.
-use Prim.Native.Nat.{ℕ, _<_}
+use Prim.Native.Nat.{ℕ}
 use mathlib.Core.Path.{_≡_, sym, ap, _∙_}
 use mathlib.Core.Bool.{true}
 use mathlib.Core.List.{List}

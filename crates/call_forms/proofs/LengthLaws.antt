@@ -3,9 +3,9 @@ use mathlib.Core.Path.{_≡_, refl}
 use mathlib.Core.List.{_∷_, _++_}
 use lib.ListN.{length}
 use Rattle.lists.specs.Lists.{pad}
-use Rattle.handles.specs.declared.handle.GenerationalHandle.{GenerationalHandle}
-use Rattle.composition_state.specs.declared.trace.ArbitrationEvent.{ArbitrationEvent}
-use Rattle.composition_state.specs.declared.trace.ArbitrationEvent.the-variants as event
+use Rattle.handles.specs.declared.GenerationalHandle.{GenerationalHandle}
+use Rattle.records.specs.declared.trace.ArbitrationEvent.{ArbitrationEvent}
+use Rattle.records.specs.declared.trace.ArbitrationEvent.the-variants as event
 use Rattle.input_events.specs.declared.event.PlatformInputHeader.{PlatformInputHeader}
 use Rattle.input_events.specs.declared.event.PlatformInputPayload.{PlatformInputPayload}
 use Rattle.input_events.specs.declared.event.PlatformInputPayload.the-variants as payload

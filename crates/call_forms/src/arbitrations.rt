@@ -7,10 +7,10 @@ ghost use Rattle.call_numbers.specs.Words.{handleNumbers, optionalNumbers, poin
 use crate::shared::handle_form;
 use call_fields::groups::optional_numbers;
 use calls::arguments::ArbitrateArguments;
-use composition_state::trace::ArbitrationEvent;
-use handles::handle::GenerationalHandle;
-use handles::handle::OptionalHandle;
+use handles::GenerationalHandle;
+use handles::OptionalHandle;
 use maps::keys::CompositionPointerId;
+use records::trace::ArbitrationEvent;
 
 fn kind_form(view: GenerationalHandle, kind: u64) -> [u64; 32]
     ensures { λ r. ⌜ r ≡ pad 32 0 (20 ∷ handleNumbers view ++ kind ∷ []) ⌝ }

@@ -22,7 +22,7 @@ use calls::arguments::GeometryArguments;
 use calls::arguments::MetricsArguments;
 use calls::arguments::PolicyArguments;
 use calls::call::PanelCall;
-use composition_state::surface::SurfaceDescriptor;
+use records::surface::SurfaceDescriptor;
 
 fn metrics_form(given: MetricsArguments) -> [u64; 32]
     ensures { λ r. ⌜ r ≡ pad 32 0 (3 ∷ handleNumbers (given .view) ++ metricsNumbers (given .update) ++ given .revision ∷ []) ⌝ }

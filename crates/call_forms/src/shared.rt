@@ -6,7 +6,7 @@ ghost use Rattle.call_numbers.specs.Inputs.{revisionNumbers, namedNumbers};
 ghost use Rattle.call_numbers.specs.Words.{handleNumbers};
 use calls::arguments::HandleArguments;
 use calls::arguments::PointerArguments;
-use handles::handle::GenerationalHandle;
+use handles::GenerationalHandle;
 
 pub fn bare_form(number: u64) -> [u64; 32]
     ensures { λ r. ⌜ r ≡ pad 32 0 (number ∷ []) ⌝ }

@@ -1,7 +1,7 @@
 -- Each call is read back from its numbers: its fields stand at the places where the reader looks, and each is read back by its own law.
 use mathlib.Core.Path.{_≡_, refl, sym, ap, _∙_}
 use Rattle.lists.specs.Lists.{pad}
-use Rattle.composition_state.specs.declared.surface.SurfaceDescriptor.{SurfaceDescriptor}
+use Rattle.records.specs.declared.surface.SurfaceDescriptor.{SurfaceDescriptor}
 use Rattle.calls.specs.declared.call.Call.{Call}
 use Rattle.calls.specs.declared.call.Call.the-variants as call
 use Rattle.calls.specs.declared.call.CloseCall.the-variants as close

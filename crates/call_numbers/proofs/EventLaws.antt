@@ -1,10 +1,9 @@
 -- An event to arbitrate and a routed one are read back from their numbers, kind by kind.
 use mathlib.Core.Path.{_≡_, refl, ap}
-use mathlib.Core.List.{_∷_}
 use Rattle.lists.specs.Lists.{pad}
-use Rattle.handles.specs.declared.handle.GenerationalHandle.{GenerationalHandle}
-use Rattle.composition_state.specs.declared.trace.ArbitrationEvent.{ArbitrationEvent}
-use Rattle.composition_state.specs.declared.trace.ArbitrationEvent.the-variants as event
+use Rattle.handles.specs.declared.GenerationalHandle.{GenerationalHandle}
+use Rattle.records.specs.declared.trace.ArbitrationEvent.{ArbitrationEvent}
+use Rattle.records.specs.declared.trace.ArbitrationEvent.the-variants as event
 use Rattle.input_events.specs.declared.event.PlatformInputHeader.{PlatformInputHeader}
 use Rattle.input_events.specs.declared.event.PlatformInputPayload.{PlatformInputPayload}
 use Rattle.input_events.specs.declared.event.PlatformInputPayload.the-variants as payload

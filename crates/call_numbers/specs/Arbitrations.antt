@@ -4,8 +4,8 @@ use mathlib.Core.Bool.{cond}
 use mathlib.Core.List.{List, [], _∷_, _++_}
 use lib.Dec.{eqb}
 use lib.ListN.{getD}
-use Rattle.composition_state.specs.declared.trace.ArbitrationEvent.{ArbitrationEvent}
-use Rattle.composition_state.specs.declared.trace.ArbitrationEvent.the-variants.{Pointer, PointerStack, PointerFor, PointerStackFor, Keyboard, KeyboardFor, Gamepad, GamepadFor, Text, Shortcut, SystemShortcut}
+use Rattle.records.specs.declared.trace.ArbitrationEvent.{ArbitrationEvent}
+use Rattle.records.specs.declared.trace.ArbitrationEvent.the-variants.{Pointer, PointerStack, PointerFor, PointerStackFor, Keyboard, KeyboardFor, Gamepad, GamepadFor, Text, Shortcut, SystemShortcut}
 use Rattle.calls.specs.declared.arguments.ArbitrateArguments.{ArbitrateArguments}
 use Rattle.call_numbers.specs.Words.{handleNumbers, handleAt, optionalNumbers, optionalAt, pointerNumbers, pointerAt}
 

@@ -2,9 +2,9 @@
 use Prim.Native.Nat.{ℕ, _<_}
 use mir.Syntax.{w16, w32}
 use mir.Val.{SFits}
-use Rattle.handles.specs.declared.handle.GenerationalHandle.{GenerationalHandle}
-use Rattle.handles.specs.declared.handle.OptionalHandle.{OptionalHandle}
-use Rattle.handles.specs.declared.handle.OptionalHandle.the-variants as handle
+use Rattle.handles.specs.declared.GenerationalHandle.{GenerationalHandle}
+use Rattle.handles.specs.declared.OptionalHandle.{OptionalHandle}
+use Rattle.handles.specs.declared.OptionalHandle.the-variants as handle
 use Rattle.maps.specs.declared.keys.CompositionPointerId.{CompositionPointerId}
 use Rattle.geometry.specs.declared.metrics.ViewInsets.{ViewInsets}
 use Rattle.geometry.specs.declared.metrics.ViewMetricsUpdate.{ViewMetricsUpdate}
@@ -14,9 +14,9 @@ use Rattle.geometry.specs.declared.rect.SurfaceRect.{SurfaceRect}
 use Rattle.geometry.specs.declared.surface.SurfaceGeometry.{SurfaceGeometry}
 use Rattle.geometry.specs.declared.transform.Point.{Point}
 use Rattle.geometry.specs.declared.transform.SurfaceTransform.{SurfaceTransform}
-use Rattle.composition_state.specs.declared.surface.SurfaceDescriptor.{SurfaceDescriptor}
-use Rattle.composition_state.specs.declared.trace.ArbitrationEvent.{ArbitrationEvent}
-use Rattle.composition_state.specs.declared.trace.ArbitrationEvent.the-variants as event
+use Rattle.records.specs.declared.surface.SurfaceDescriptor.{SurfaceDescriptor}
+use Rattle.records.specs.declared.trace.ArbitrationEvent.{ArbitrationEvent}
+use Rattle.records.specs.declared.trace.ArbitrationEvent.the-variants as event
 use Rattle.composition_shortcuts.specs.declared.register.OptionalRegistration.{OptionalRegistration}
 use Rattle.composition_shortcuts.specs.declared.register.OptionalRegistration.the-variants as registration
 use Rattle.input_events.specs.declared.event.OptionalButton.{OptionalButton}

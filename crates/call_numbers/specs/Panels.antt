@@ -6,7 +6,7 @@ use lib.Dec.{eqb}
 use lib.ListN.{getD}
 use mir.Syntax.{w32}
 use mir.Val.{ofZ}
-use Rattle.composition_state.specs.declared.surface.SurfaceDescriptor.{SurfaceDescriptor}
+use Rattle.records.specs.declared.surface.SurfaceDescriptor.{SurfaceDescriptor}
 use Rattle.calls.specs.declared.call.PanelCall.{PanelCall}
 use Rattle.calls.specs.declared.call.PanelCall.the-variants.{CreateWindow, CloseWindow, CreateView, UpdateViewMetrics, CloseView, AttachSurface, UpdateSurfaceGeometry, UpdateSurfaceInputPolicy}
 use Rattle.call_fields.specs.Narrow.{isOne, oneIf, signedOf}

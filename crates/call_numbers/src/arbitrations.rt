@@ -5,7 +5,7 @@ use crate::words::handle_at;
 use crate::words::optional_at;
 use crate::words::pointer_at;
 use calls::arguments::ArbitrateArguments;
-use composition_state::trace::ArbitrationEvent;
+use records::trace::ArbitrationEvent;
 
 // The event of a kind from 0 to 10, by the declared order; any other is read as the last.
 fn event_at(words: [u64; 32]) -> ArbitrationEvent

@@ -12,7 +12,7 @@ use calls::arguments::GeometryArguments;
 use calls::arguments::MetricsArguments;
 use calls::arguments::PolicyArguments;
 use calls::call::PanelCall;
-use composition_state::surface::SurfaceDescriptor;
+use records::surface::SurfaceDescriptor;
 
 fn descriptor_at(words: [u64; 32]) -> SurfaceDescriptor
     ensures { λ r. ⌜ r ≡ descriptorAt words ⌝ }

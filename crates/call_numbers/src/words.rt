@@ -6,8 +6,8 @@ use call_fields::groups::OptionalNumbers;
 use call_fields::groups::handle_of;
 use call_fields::groups::optional_of;
 use call_fields::groups::pointer_of;
-use handles::handle::GenerationalHandle;
-use handles::handle::OptionalHandle;
+use handles::GenerationalHandle;
+use handles::OptionalHandle;
 use maps::keys::CompositionPointerId;
 
 // Past the end a word is 0.

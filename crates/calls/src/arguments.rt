@@ -1,14 +1,14 @@
 // The arguments of the calls that take more than one. `revision` is the one that the caller expects.
 use composition_shortcuts::register::OptionalRegistration;
-use composition_state::surface::SurfaceInputPolicy;
-use composition_state::trace::ArbitrationEvent;
 use geometry::metrics::ViewMetricsUpdate;
 use geometry::surface::SurfaceGeometry;
 use geometry::transform::Point;
 use geometry::transform::SurfaceTransform;
-use handles::handle::GenerationalHandle;
-use handles::handle::OptionalHandle;
+use handles::GenerationalHandle;
+use handles::OptionalHandle;
 use maps::keys::CompositionPointerId;
+use records::surface::SurfaceInputPolicy;
+use records::trace::ArbitrationEvent;
 
 pub struct MetricsArguments {
     pub view: GenerationalHandle,

@@ -12,10 +12,10 @@ use crate::arguments::PointerArguments;
 use crate::arguments::PolicyArguments;
 use crate::arguments::RegistrationArguments;
 use composition_shortcuts::register::Registrations;
-use composition_state::surface::SurfaceDescriptor;
-use composition_state::trace::Hits;
-use handles::handle::GenerationalHandle;
+use handles::GenerationalHandle;
 use input_events::event::PlatformInputEvent;
+use records::surface::SurfaceDescriptor;
+use records::trace::Hits;
 
 pub enum PanelCall {
     CreateWindow,

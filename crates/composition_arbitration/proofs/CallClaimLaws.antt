@@ -6,21 +6,21 @@ use mathlib.Core.List.{[], _∷_}
 use lib.Dec.{eqb}
 use Rattle.lists.specs.Tables.{entriesOf}
 use Rattle.lists.proofs.TableLaws.{entries-packed}
-use Rattle.handles.specs.declared.handle.GenerationalHandle.{GenerationalHandle}
-use Rattle.handles.specs.declared.handle.OptionalHandle.{OptionalHandle}
-use Rattle.handles.specs.declared.handle.OptionalHandle.the-variants.{None, Some}
-use Rattle.composition_state.specs.declared.error.CompositionError.the-variants.{RevisionExhausted}
-use Rattle.composition_state.specs.declared.error.Outcome.{Outcome}
-use Rattle.composition_state.specs.declared.error.Outcome.the-variants.{Accepted}
+use Rattle.handles.specs.declared.GenerationalHandle.{GenerationalHandle}
+use Rattle.handles.specs.declared.OptionalHandle.{OptionalHandle}
+use Rattle.handles.specs.declared.OptionalHandle.the-variants.{None, Some}
+use Rattle.records.specs.declared.error.CompositionError.the-variants.{RevisionExhausted}
+use Rattle.records.specs.declared.error.Outcome.{Outcome}
+use Rattle.records.specs.declared.error.Outcome.the-variants.{Accepted}
 use Rattle.composition_state.specs.declared.registry.CompositionRegistry.{CompositionRegistry}
-use Rattle.composition_state.specs.declared.trace.ArbitrationEvent.{ArbitrationEvent}
-use Rattle.composition_state.specs.declared.trace.ArbitrationEvent.the-variants.{SystemShortcut}
-use Rattle.composition_state.specs.declared.trace.Hits.{Hits}
+use Rattle.records.specs.declared.trace.ArbitrationEvent.{ArbitrationEvent}
+use Rattle.records.specs.declared.trace.ArbitrationEvent.the-variants.{SystemShortcut}
+use Rattle.records.specs.declared.trace.Hits.{Hits}
 use Rattle.composition_state.specs.Damage.{damageRefusal}
 use Rattle.composition_state.specs.Registry.{withRevision}
-use Rattle.composition_state.specs.Layers.{layers}
-use Rattle.composition_state.specs.Traces.{hits as stateHits, deliveries}
-use Rattle.composition_state.specs.Views.{viewAt, viewRefusal}
+use Rattle.records.specs.Layers.{layers}
+use Rattle.records.specs.Traces.{hits as stateHits, deliveries}
+use Rattle.records.specs.Views.{viewAt, viewRefusal}
 use Rattle.composition_state.proofs.SettleLaws.{last, then-last, if-accepted, refused-early, settled-accepted, accepted-is}
 use Rattle.composition_arbitration.specs.declared.walk.Walked.{Walked}
 use Rattle.composition_arbitration.specs.Arbitration.{ownHits, hitsRefusal, resolution, alone, orAlone, walkIn, arbitration, nextRevision, arbitrateRefusal, traceOf, withTrace, concluded, arbitrated}

@@ -8,14 +8,14 @@ use native.Mathlib.Omega.{arith}
 use Rattle.lists.specs.Lists.{keep}
 use Rattle.lists.specs.Maps.{rising}
 use Rattle.lists.proofs.ListLaws.{by-test, and-right, keep-reverse}
-use Rattle.handles.specs.declared.handle.GenerationalHandle.{GenerationalHandle}
-use Rattle.handles.specs.declared.handle.OptionalHandle.the-variants.{Some}
-use Rattle.composition_state.specs.declared.surface.SurfaceInputPolicy.the-variants.{Observe, Exclusive}
-use Rattle.composition_state.specs.declared.surface.SurfaceRecord.{SurfaceRecord}
-use Rattle.composition_state.specs.declared.surface.SurfaceTable.{SurfaceTable}
-use Rattle.composition_state.specs.Layers.{itself, layerLt}
-use Rattle.composition_state.proofs.LayerLaws as layer
-use Rattle.composition_state.specs.Surfaces.{descriptorOf}
+use Rattle.handles.specs.declared.GenerationalHandle.{GenerationalHandle}
+use Rattle.handles.specs.declared.OptionalHandle.the-variants.{Some}
+use Rattle.records.specs.declared.surface.SurfaceInputPolicy.the-variants.{Observe, Exclusive}
+use Rattle.records.specs.declared.surface.SurfaceRecord.{SurfaceRecord}
+use Rattle.records.specs.declared.surface.SurfaceTable.{SurfaceTable}
+use Rattle.records.specs.Layers.{itself, layerLt}
+use Rattle.records.proofs.LayerLaws as layer
+use Rattle.records.specs.Surfaces.{descriptorOf}
 use Rattle.composition_arbitration.specs.declared.targets.Choice.{Choice}
 use Rattle.composition_arbitration.specs.declared.targets.Choice.the-variants.{Captured, Hit, HitStack, Focused, FocusedText, Given}
 use Rattle.composition_arbitration.specs.declared.walk.Verdict.{Verdict}

@@ -2,17 +2,17 @@
 use mathlib.Core.Path.{_≡_}
 use mathlib.Core.List.{[]}
 use Rattle.lists.specs.Tables.{packed}
-use Rattle.handles.specs.declared.handle.GenerationalHandle.{GenerationalHandle}
-use Rattle.handles.specs.declared.handle.OptionalHandle.the-variants.{None}
-use Rattle.composition_state.specs.declared.error.CompositionError.{CompositionError}
-use Rattle.composition_state.specs.declared.error.Outcome.the-variants.{Accepted, Refused}
+use Rattle.handles.specs.declared.GenerationalHandle.{GenerationalHandle}
+use Rattle.handles.specs.declared.OptionalHandle.the-variants.{None}
+use Rattle.records.specs.declared.error.CompositionError.{CompositionError}
+use Rattle.records.specs.declared.error.Outcome.the-variants.{Accepted, Refused}
 use Rattle.composition_state.specs.declared.registry.CompositionRegistry.{CompositionRegistry}
-use Rattle.composition_state.specs.declared.trace.ArbitrationEvent.{ArbitrationEvent}
-use Rattle.composition_state.specs.declared.trace.CompositionTrace.{CompositionTrace}
-use Rattle.composition_state.specs.declared.trace.Hits.{Hits}
+use Rattle.records.specs.declared.trace.ArbitrationEvent.{ArbitrationEvent}
+use Rattle.records.specs.declared.trace.CompositionTrace.{CompositionTrace}
+use Rattle.records.specs.declared.trace.Hits.{Hits}
 use Rattle.composition_state.specs.Damage.{damageRefusal}
 use Rattle.composition_state.specs.Registry.{advanced}
-use Rattle.composition_state.specs.Traces.{deliveries}
+use Rattle.records.specs.Traces.{deliveries}
 use Rattle.composition_arbitration.specs.declared.arbitrate.Arbitrated.{Arbitrated}
 use Rattle.composition_arbitration.specs.Arbitration.{ownHits, resolution, concluded, arbitrated}
 use Rattle.composition_arbitration.specs.Decisions.{decided, resultOf, keptIn}

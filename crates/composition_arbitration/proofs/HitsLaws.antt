@@ -12,11 +12,11 @@ use denote.Struct.Laws as LL
 use Rattle.lists.specs.Tables.{entriesOf}
 use Rattle.lists.proofs.TableLaws as table
 use Rattle.handles.specs.Handles.{sameHandle}
-use Rattle.handles.specs.declared.handle.GenerationalHandle.{GenerationalHandle}
-use Rattle.composition_state.specs.declared.trace.Hits.{Hits}
-use Rattle.composition_state.specs.Traces.{hits}
-use Rattle.composition_state.proofs.trace.Hits as T
-use Rattle.composition_state.proofs.trace.Hits.Laws as T′
+use Rattle.handles.specs.declared.GenerationalHandle.{GenerationalHandle}
+use Rattle.records.specs.declared.trace.Hits.{Hits}
+use Rattle.records.specs.Traces.{hits}
+use Rattle.records.proofs.trace.Hits as T
+use Rattle.records.proofs.trace.Hits.Laws as T′
 use Rattle.composition_arbitration.specs.Targets.{isAmong}
 
 pub long : (t : Hits) {vs : List Val} → Is T.the-row t vs → length (t .items) ≡ 16

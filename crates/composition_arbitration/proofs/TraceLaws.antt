@@ -11,9 +11,9 @@ use lib.Dec.{ltb}
 use Rattle.lists.specs.Tables.{entriesOf, packed, pushed}
 use Rattle.lists.proofs.ListLaws.{by-test}
 use Rattle.lists.proofs.TableLaws.{push-packed}
-use Rattle.composition_state.specs.declared.trace.CompositionTrace.{CompositionTrace}
-use Rattle.composition_state.specs.declared.trace.Traces.{Traces}
-use Rattle.composition_state.specs.Traces.{traces}
+use Rattle.records.specs.declared.trace.CompositionTrace.{CompositionTrace}
+use Rattle.records.specs.declared.trace.Traces.{Traces}
+use Rattle.records.specs.Traces.{traces}
 use Rattle.composition_arbitration.specs.Trace.{keptBefore, traced}
 
 pub few-kept : (limit : ℕ) → keptBefore limit ≤ 31

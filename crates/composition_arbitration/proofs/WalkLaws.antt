@@ -10,17 +10,17 @@ use Rattle.lists.specs.Lists.{keep}
 use Rattle.lists.specs.Tables.{entriesOf, packed}
 use Rattle.lists.proofs.ListLaws.{keep-append, map-append, last-first, by-test}
 use Rattle.lists.proofs.TableLaws.{entries-packed}
-use Rattle.handles.specs.declared.handle.GenerationalHandle.{GenerationalHandle}
-use Rattle.handles.specs.declared.handle.OptionalHandle.the-variants.{None, Some}
-use Rattle.composition_state.specs.declared.trace.InputDelivery.{InputDelivery}
-use Rattle.composition_state.specs.declared.trace.Deliveries.{Deliveries}
-use Rattle.composition_state.specs.declared.layers.Layers.{Layers}
-use Rattle.composition_state.specs.declared.surface.SurfaceRecord.{SurfaceRecord}
-use Rattle.composition_state.specs.declared.surface.SurfaceTable.{SurfaceTable}
-use Rattle.composition_state.specs.Layers.{layers, recordsOf}
-use Rattle.composition_state.specs.Surfaces.{noSurface}
-use Rattle.composition_state.specs.Traces.{deliveries}
-use Rattle.composition_state.proofs.LayerLaws.{record-here}
+use Rattle.handles.specs.declared.GenerationalHandle.{GenerationalHandle}
+use Rattle.handles.specs.declared.OptionalHandle.the-variants.{None, Some}
+use Rattle.records.specs.declared.trace.InputDelivery.{InputDelivery}
+use Rattle.records.specs.declared.trace.Deliveries.{Deliveries}
+use Rattle.records.specs.declared.layers.Layers.{Layers}
+use Rattle.records.specs.declared.surface.SurfaceRecord.{SurfaceRecord}
+use Rattle.records.specs.declared.surface.SurfaceTable.{SurfaceTable}
+use Rattle.records.specs.Layers.{layers, recordsOf}
+use Rattle.records.specs.Surfaces.{noSurface}
+use Rattle.records.specs.Traces.{deliveries}
+use Rattle.records.proofs.LayerLaws.{record-here}
 use Rattle.composition_arbitration.specs.declared.targets.Choice.{Choice}
 use Rattle.composition_arbitration.specs.declared.walk.Verdict.{Verdict}
 use Rattle.composition_arbitration.specs.declared.walk.Walked.{Walked}

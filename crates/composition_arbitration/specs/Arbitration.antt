@@ -4,24 +4,24 @@ use mathlib.Core.Bool.{Bool, true, false, cond}
 use mathlib.Core.List.{List, [], _∷_}
 use lib.Dec.{eqb, ltb}
 use Rattle.lists.specs.Tables.{entriesOf, packed}
-use Rattle.handles.specs.declared.handle.GenerationalHandle.{GenerationalHandle}
-use Rattle.handles.specs.declared.handle.OptionalHandle.{OptionalHandle}
-use Rattle.handles.specs.declared.handle.OptionalHandle.the-variants.{None, Some}
-use Rattle.composition_state.specs.declared.error.CompositionError.the-variants.{PortLimit, RevisionExhausted}
-use Rattle.composition_state.specs.declared.error.Outcome.{Outcome}
-use Rattle.composition_state.specs.declared.error.Outcome.the-variants.{Accepted, Refused}
+use Rattle.handles.specs.declared.GenerationalHandle.{GenerationalHandle}
+use Rattle.handles.specs.declared.OptionalHandle.{OptionalHandle}
+use Rattle.handles.specs.declared.OptionalHandle.the-variants.{None, Some}
+use Rattle.records.specs.declared.error.CompositionError.the-variants.{PortLimit, RevisionExhausted}
+use Rattle.records.specs.declared.error.Outcome.{Outcome}
+use Rattle.records.specs.declared.error.Outcome.the-variants.{Accepted, Refused}
 use Rattle.composition_state.specs.declared.registry.Changed.{Changed}
 use Rattle.composition_state.specs.declared.registry.CompositionRegistry.{CompositionRegistry}
-use Rattle.composition_state.specs.declared.trace.ArbitrationEvent.{ArbitrationEvent}
-use Rattle.composition_state.specs.declared.trace.ArbitrationEvent.the-variants.{Pointer, PointerStack, PointerFor, PointerStackFor, Keyboard, KeyboardFor, Gamepad, GamepadFor, Text, Shortcut, SystemShortcut}
-use Rattle.composition_state.specs.declared.trace.CompositionTrace.{CompositionTrace}
-use Rattle.composition_state.specs.declared.trace.Hits.{Hits}
-use Rattle.composition_state.specs.Errors.{thenRefusal, refusalIf, isAccepted}
+use Rattle.records.specs.declared.trace.ArbitrationEvent.{ArbitrationEvent}
+use Rattle.records.specs.declared.trace.ArbitrationEvent.the-variants.{Pointer, PointerStack, PointerFor, PointerStackFor, Keyboard, KeyboardFor, Gamepad, GamepadFor, Text, Shortcut, SystemShortcut}
+use Rattle.records.specs.declared.trace.CompositionTrace.{CompositionTrace}
+use Rattle.records.specs.declared.trace.Hits.{Hits}
+use Rattle.records.specs.Errors.{thenRefusal, refusalIf, isAccepted}
 use Rattle.composition_state.specs.Damage.{damageRefusal}
-use Rattle.composition_state.specs.Layers.{layers}
+use Rattle.records.specs.Layers.{layers}
 use Rattle.composition_state.specs.Registry.{withTraces, settled}
-use Rattle.composition_state.specs.Traces.{hits as stateHits, deliveries}
-use Rattle.composition_state.specs.Views.{viewAt, viewRefusal}
+use Rattle.records.specs.Traces.{hits as stateHits, deliveries}
+use Rattle.records.specs.Views.{viewAt, viewRefusal}
 use Rattle.composition_shortcuts.specs.declared.resolve.Resolved.{Resolved}
 use Rattle.composition_shortcuts.specs.Resolve.{resolveSystemShortcut}
 use Rattle.composition_arbitration.specs.declared.arbitrate.Arbitrated.{Arbitrated}

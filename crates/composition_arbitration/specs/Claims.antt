@@ -6,26 +6,26 @@ use mathlib.Core.List.{List, [], _∷_, _++_, map, reverse, List·Memᴰ}
 use Rattle.lists.specs.Lists.{keep}
 use Rattle.lists.specs.Maps.{rising}
 use Rattle.lists.specs.Tables.{entriesOf}
-use Rattle.handles.specs.declared.handle.GenerationalHandle.{GenerationalHandle}
-use Rattle.handles.specs.declared.handle.OptionalHandle.{OptionalHandle}
-use Rattle.handles.specs.declared.handle.OptionalHandle.the-variants.{Some}
+use Rattle.handles.specs.declared.GenerationalHandle.{GenerationalHandle}
+use Rattle.handles.specs.declared.OptionalHandle.{OptionalHandle}
+use Rattle.handles.specs.declared.OptionalHandle.the-variants.{Some}
 use Rattle.maps.specs.declared.keys.CompositionPointerId.{CompositionPointerId}
-use Rattle.composition_state.specs.declared.error.CompositionError.{CompositionError}
-use Rattle.composition_state.specs.declared.error.Outcome.the-variants.{Accepted, Refused}
+use Rattle.records.specs.declared.error.CompositionError.{CompositionError}
+use Rattle.records.specs.declared.error.Outcome.the-variants.{Accepted, Refused}
 use Rattle.composition_state.specs.declared.registry.CompositionRegistry.{CompositionRegistry}
-use Rattle.composition_state.specs.declared.surface.SurfaceInputPolicy.the-variants.{Observe, Exclusive}
-use Rattle.composition_state.specs.declared.surface.SurfaceRecord.{SurfaceRecord}
-use Rattle.composition_state.specs.declared.surface.SurfaceTable.{SurfaceTable}
-use Rattle.composition_state.specs.declared.trace.ArbitrationEvent.{ArbitrationEvent}
-use Rattle.composition_state.specs.declared.trace.ArbitrationEvent.the-variants.{Pointer, PointerStack, PointerFor, PointerStackFor, SystemShortcut}
-use Rattle.composition_state.specs.declared.trace.CompositionTrace.{CompositionTrace}
-use Rattle.composition_state.specs.declared.trace.Hits.{Hits}
-use Rattle.composition_state.specs.declared.trace.InputDelivery.{InputDelivery}
-use Rattle.composition_state.specs.declared.view.ViewRecord.{ViewRecord}
-use Rattle.composition_state.specs.Layers.{layerLt, itself}
+use Rattle.records.specs.declared.surface.SurfaceInputPolicy.the-variants.{Observe, Exclusive}
+use Rattle.records.specs.declared.surface.SurfaceRecord.{SurfaceRecord}
+use Rattle.records.specs.declared.surface.SurfaceTable.{SurfaceTable}
+use Rattle.records.specs.declared.trace.ArbitrationEvent.{ArbitrationEvent}
+use Rattle.records.specs.declared.trace.ArbitrationEvent.the-variants.{Pointer, PointerStack, PointerFor, PointerStackFor, SystemShortcut}
+use Rattle.records.specs.declared.trace.CompositionTrace.{CompositionTrace}
+use Rattle.records.specs.declared.trace.Hits.{Hits}
+use Rattle.records.specs.declared.trace.InputDelivery.{InputDelivery}
+use Rattle.records.specs.declared.view.ViewRecord.{ViewRecord}
+use Rattle.records.specs.Layers.{layerLt, itself}
 use Rattle.composition_state.specs.Registry.{withRevision}
-use Rattle.composition_state.specs.Surfaces.{descriptorOf}
-use Rattle.composition_state.specs.Traces.{deliveries}
+use Rattle.records.specs.Surfaces.{descriptorOf}
+use Rattle.records.specs.Traces.{deliveries}
 use Rattle.composition_shortcuts.specs.Resolve.{resolveSystemShortcut}
 use Rattle.composition_arbitration.specs.declared.targets.Choice.{Choice}
 use Rattle.composition_arbitration.specs.declared.walk.Verdict.{Verdict}

@@ -1,15 +1,15 @@
 -- What is decided of an event before anything is written, so that a caller who has tested the registry for damage need not have it tested again.
 use lib.Dec.{eqb}
-use Rattle.handles.specs.declared.handle.GenerationalHandle.{GenerationalHandle}
-use Rattle.composition_state.specs.declared.error.CompositionError.the-variants.{RevisionExhausted}
-use Rattle.composition_state.specs.declared.error.Outcome.{Outcome}
+use Rattle.handles.specs.declared.GenerationalHandle.{GenerationalHandle}
+use Rattle.records.specs.declared.error.CompositionError.the-variants.{RevisionExhausted}
+use Rattle.records.specs.declared.error.Outcome.{Outcome}
 use Rattle.composition_state.specs.declared.registry.CompositionRegistry.{CompositionRegistry}
-use Rattle.composition_state.specs.declared.trace.ArbitrationEvent.{ArbitrationEvent}
-use Rattle.composition_state.specs.declared.trace.CompositionTrace.{CompositionTrace}
-use Rattle.composition_state.specs.declared.trace.Hits.{Hits}
-use Rattle.composition_state.specs.Errors.{thenRefusal, refusalIf}
+use Rattle.records.specs.declared.trace.ArbitrationEvent.{ArbitrationEvent}
+use Rattle.records.specs.declared.trace.CompositionTrace.{CompositionTrace}
+use Rattle.records.specs.declared.trace.Hits.{Hits}
+use Rattle.records.specs.Errors.{thenRefusal, refusalIf}
 use Rattle.composition_state.specs.Registry.{withTraces, withRevision}
-use Rattle.composition_state.specs.Views.{viewRefusal}
+use Rattle.records.specs.Views.{viewRefusal}
 use Rattle.composition_arbitration.specs.declared.arbitrate.ArbitrationResult.{ArbitrationResult}
 use Rattle.composition_arbitration.specs.declared.arbitrate.Decision.{Decision}
 use Rattle.composition_arbitration.specs.Arbitration.{ownHits, hitsRefusal, resolution, arbitration, nextRevision, traceOf}

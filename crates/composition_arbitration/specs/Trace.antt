@@ -5,9 +5,9 @@ use mathlib.Core.List.{List, [], _∷_, _++_}
 use lib.ListN.{length, drop}
 use lib.Dec.{ltb}
 use Rattle.lists.specs.Tables.{entriesOf, packed}
-use Rattle.composition_state.specs.declared.trace.CompositionTrace.{CompositionTrace}
-use Rattle.composition_state.specs.declared.trace.Traces.{Traces}
-use Rattle.composition_state.specs.Traces.{traces}
+use Rattle.records.specs.declared.trace.CompositionTrace.{CompositionTrace}
+use Rattle.records.specs.declared.trace.Traces.{Traces}
+use Rattle.records.specs.Traces.{traces}
 
 -- the last n of a list
 abbrev pub lastOf : {E : Type 0} → ℕ → List E → List E

@@ -6,17 +6,17 @@ ghost use Rattle.composition_arbitration.specs.Decisions.{refusalAfter, 
 use crate::walk::Walked;
 use composition_shortcuts::resolve::Resolved;
 use composition_shortcuts::resolve::resolve_system_shortcut;
-use composition_state::error::CompositionError;
-use composition_state::error::Outcome;
 use composition_state::registry::CompositionRegistry;
-use composition_state::trace::ArbitrationEvent;
-use composition_state::trace::CompositionTrace;
-use composition_state::trace::Deliveries;
-use composition_state::trace::Hits;
-use composition_state::trace::InputDelivery;
-use composition_state::trace::Traces;
-use handles::handle::GenerationalHandle;
-use handles::handle::OptionalHandle;
+use handles::GenerationalHandle;
+use handles::OptionalHandle;
+use records::error::CompositionError;
+use records::error::Outcome;
+use records::trace::ArbitrationEvent;
+use records::trace::CompositionTrace;
+use records::trace::Deliveries;
+use records::trace::Hits;
+use records::trace::InputDelivery;
+use records::trace::Traces;
 
 pub struct ArbitrationResult {
     pub revision: u64,
@@ -63,7 +63,7 @@ fn own_hits(event: ArbitrationEvent, hits: Hits) -> Hits
 fn hits_refusal(hits: Hits) -> Outcome
     ensures { λ r. ⌜ r ≡ hitsRefusal hits ⌝ }
 {
-    composition_state::error::refuse_if(16 < hits.len, CompositionError::PortLimit)
+    records::error::refuse_if(16 < hits.len, CompositionError::PortLimit)
 }
 
 fn unresolved() -> Resolved
@@ -122,12 +122,10 @@ fn walk_in(
 ) -> Walked
     ensures { λ r. ⌜ r ≡ walkIn registry view event hits ⌝ }
 {
-    let views = registry.views;
-    let surfaces = registry.surfaces;
-    let record = views.record(view);
+    let record = registry.views.record(view);
     let layers = record.surfaces;
     let choice = crate::targets::choose(event, record);
-    crate::walk::walk_layers(surfaces, choice, hits, layers)
+    crate::walk::walk_layers(registry.surfaces, choice, hits, layers)
 }
 
 fn next_revision(revision: u64) -> u64
@@ -149,12 +147,11 @@ fn arbitrate_refusal(
 ) -> Outcome
     ensures { λ r. ⌜ r ≡ refusalAfter damage registry view hits resolved ⌝ }
 {
-    let views = registry.views;
-    let exhausted = composition_state::error::refuse_if(
+    let exhausted = records::error::refuse_if(
         registry.revision == 18446744073709551615,
         CompositionError::RevisionExhausted,
     );
-    let unknown = views.refusal(view);
+    let unknown = registry.views.refusal(view);
     damage.then(unknown.then(hits_refusal(hits).then(resolved.then(exhausted))))
 }
 
@@ -243,7 +240,6 @@ pub fn arbitrate(
 {
     let decision = decide(registry.damage(), registry, view, event, hits);
     let outcome = decision.outcome;
-    let trace = decision.trace;
     if let Outcome::Refused(error) = outcome {
         return Arbitrated {
             outcome: Outcome::Refused(error),
@@ -255,13 +251,15 @@ pub fn arbitrate(
             registry,
         };
     }
-    let limits = registry.limits;
-    let stored = registry.traces;
-    let traces = crate::trace::push_trace(stored, limits.max_trace_entries, trace);
-    let result = result_of(trace);
+    let traces = crate::trace::push_trace(
+        registry.traces,
+        registry.limits.max_trace_entries,
+        decision.trace,
+    );
+    let result = result_of(decision.trace);
     Arbitrated {
         outcome,
         result,
-        registry: with_traces_at(registry, traces, trace.revision),
+        registry: with_traces_at(registry, traces, decision.trace.revision),
     }
 }

@@ -2,13 +2,13 @@
 ghost use mathlib.Core.Path.{_≡_};
 ghost use lib.ListN.{length};
 ghost use Rattle.lists.specs.Tables.{entriesOf};
-ghost use Rattle.composition_state.specs.Traces.{hits as stateHits};
+ghost use Rattle.records.specs.Traces.{hits as stateHits};
 ghost use Rattle.composition_arbitration.specs.Targets.{isAmong, captureOr, chosen, isTargeted};
-use composition_state::trace::ArbitrationEvent;
-use composition_state::trace::Hits;
-use composition_state::view::ViewRecord;
-use handles::handle::GenerationalHandle;
-use handles::handle::OptionalHandle;
+use handles::GenerationalHandle;
+use handles::OptionalHandle;
+use records::trace::ArbitrationEvent;
+use records::trace::Hits;
+use records::view::ViewRecord;
 
 // What chooses the targets of an event; the hits of a stack stand beside it.
 pub enum Choice {
@@ -37,7 +37,7 @@ fn is_among(hits: Hits, surface: GenerationalHandle) -> bool
     let mut i = 0;
     while i < n {
         let hit = hits.items[i];
-        if handles::handle::same_handle(hit, surface) {
+        if handles::same_handle(hit, surface) {
             return true;
         }
         i += 1;
@@ -92,14 +92,11 @@ pub fn is_targeted(
     ensures { λ r. ⌜ r ≡ isTargeted choice (entriesOf stateHits hits) surface «accepts_text» ⌝ }
 {
     match choice {
-        Choice::Captured(owner) => handles::handle::same_handle(owner, surface),
-        Choice::Hit(hit) => handles::handle::holds(hit, surface),
+        Choice::Captured(owner) => handles::same_handle(owner, surface),
+        Choice::Hit(hit) => handles::holds(hit, surface),
         Choice::HitStack => is_among(hits, surface),
-        Choice::Focused(focus) => handles::handle::holds(focus, surface),
-        Choice::FocusedText(focus) => lists::both(
-            handles::handle::holds(focus, surface),
-            accepts_text,
-        ),
-        Choice::Given(target) => handles::handle::holds(target, surface),
+        Choice::Focused(focus) => handles::holds(focus, surface),
+        Choice::FocusedText(focus) => lists::both(handles::holds(focus, surface), accepts_text),
+        Choice::Given(target) => handles::holds(target, surface),
     }
 }

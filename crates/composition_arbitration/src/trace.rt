@@ -3,10 +3,10 @@ ghost use mathlib.Core.Path.{_≡_};
 ghost use Prim.Native.Nat.{_-_};
 ghost use lib.ListN.{length};
 ghost use Rattle.lists.specs.Tables.{entriesOf};
-ghost use Rattle.composition_state.specs.Traces.{traces as stateTraces};
+ghost use Rattle.records.specs.Traces.{traces as stateTraces};
 ghost use Rattle.composition_arbitration.specs.Trace.{keptBefore, traced};
-use composition_state::trace::CompositionTrace;
-use composition_state::trace::Traces;
+use records::trace::CompositionTrace;
+use records::trace::Traces;
 
 fn count(traces: Traces) -> usize
     ensures { λ r. ⌜ r ≡ length (entriesOf stateTraces traces) ⌝ }

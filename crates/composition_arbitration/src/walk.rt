@@ -4,20 +4,20 @@ ghost use mathlib.Core.List.{_++_};
 ghost use Prim.Native.Nat.{_<_};
 ghost use lib.ListN.{length};
 ghost use Rattle.lists.specs.Tables.{entriesOf, packed, pushed};
-ghost use Rattle.composition_state.specs.Layers.{layers as stateLayers};
-ghost use Rattle.composition_state.specs.Traces.{hits as stateHits, deliveries as stateDeliveries};
+ghost use Rattle.records.specs.Layers.{layers as stateLayers};
+ghost use Rattle.records.specs.Traces.{hits as stateHits, deliveries as stateDeliveries};
 ghost use Rattle.composition_arbitration.specs.Targets.{isTargeted};
-ghost use Rattle.composition_arbitration.specs.Layers.{verdict, delivers, consumes, observes, deliveryFrom, delivered, verdictAt, walkOf};
+ghost use Rattle.composition_arbitration.specs.Layers.{verdict, delivers, consumes, observes, delivered, verdictAt, walkOf};
 use crate::targets::Choice;
-use composition_state::layers::Layers;
-use composition_state::surface::SurfaceInputPolicy;
-use composition_state::surface::SurfaceRecord;
-use composition_state::surface::SurfaceTable;
-use composition_state::trace::Deliveries;
-use composition_state::trace::Hits;
-use composition_state::trace::InputDelivery;
-use handles::handle::GenerationalHandle;
-use handles::handle::OptionalHandle;
+use handles::GenerationalHandle;
+use handles::OptionalHandle;
+use records::layers::Layers;
+use records::surface::SurfaceInputPolicy;
+use records::surface::SurfaceRecord;
+use records::surface::SurfaceTable;
+use records::trace::Deliveries;
+use records::trace::Hits;
+use records::trace::InputDelivery;
 
 // What a layer does with an event.
 pub enum Verdict {

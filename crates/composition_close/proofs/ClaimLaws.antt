@@ -14,8 +14,8 @@ use Rattle.lists.proofs.ListLaws.{by-test, clash, some≢none, keep-passes}
 use Rattle.lists.proofs.TableLaws.{entries-packed}
 use Rattle.handles.specs.Handles.{sameHandle, holdsHandle}
 use Rattle.handles.specs.Slots.{released}
-use Rattle.handles.specs.declared.handle.GenerationalHandle.{GenerationalHandle}
-use Rattle.handles.specs.declared.handle.OptionalHandle.the-variants as O
+use Rattle.handles.specs.declared.GenerationalHandle.{GenerationalHandle}
+use Rattle.handles.specs.declared.OptionalHandle.the-variants as O
 use Rattle.handles.specs.declared.arena.SlotStatus.{SlotStatus}
 use Rattle.handles.specs.declared.arena.SlotStatus.the-variants.{Live, Invalid, Stale}
 use Rattle.handles.specs.declared.arena.ReleaseOutcome.{ReleaseOutcome}
@@ -26,19 +26,19 @@ use Rattle.maps.specs.Keys.{pointerKey, keySame}
 use Rattle.maps.specs.MapTables.{keysRise}
 use Rattle.maps.specs.declared.keys.CompositionPointerId.{CompositionPointerId}
 use Rattle.maps.proofs.ClaimLaws as map
-use Rattle.composition_state.specs.declared.error.CompositionError.{CompositionError}
-use Rattle.composition_state.specs.declared.error.CompositionError.the-variants.{RevisionExhausted, GenerationExhausted, Damaged, InvalidSurface, StaleSurface, InvalidView, StaleView}
-use Rattle.composition_state.specs.declared.error.Outcome.{Outcome}
-use Rattle.composition_state.specs.declared.error.Outcome.the-variants.{Accepted, Refused}
+use Rattle.records.specs.declared.error.CompositionError.{CompositionError}
+use Rattle.records.specs.declared.error.CompositionError.the-variants.{RevisionExhausted, GenerationExhausted, Damaged, InvalidSurface, StaleSurface, InvalidView, StaleView}
+use Rattle.records.specs.declared.error.Outcome.{Outcome}
+use Rattle.records.specs.declared.error.Outcome.the-variants.{Accepted, Refused}
 use Rattle.composition_state.specs.declared.registry.CompositionRegistry.{CompositionRegistry}
-use Rattle.composition_state.specs.declared.surface.SurfaceTable.{SurfaceTable}
-use Rattle.composition_state.specs.declared.view.ViewRecord.{ViewRecord}
+use Rattle.records.specs.declared.surface.SurfaceTable.{SurfaceTable}
+use Rattle.records.specs.declared.view.ViewRecord.{ViewRecord}
 use Rattle.composition_state.specs.Damage.{isSound}
-use Rattle.composition_state.specs.Errors.{numberOf, thenRefusal, refusalIf, statusRefusal}
-use Rattle.composition_state.specs.Layers.{layers}
+use Rattle.records.specs.Errors.{numberOf, thenRefusal, refusalIf, statusRefusal}
+use Rattle.records.specs.Layers.{layers}
 use Rattle.composition_state.specs.Registry.{withWindows, withViews, advanced, settled}
-use Rattle.composition_state.specs.Surfaces.{surfaceStatus}
-use Rattle.composition_state.specs.Views.{viewStatus, viewsWith}
+use Rattle.records.specs.Surfaces.{surfaceStatus}
+use Rattle.records.specs.Views.{viewStatus, viewsWith}
 use Rattle.composition_state.proofs.SettleLaws.{refused-is, accepted-is}
 use Rattle.composition_panels.specs.Windows.{exhaustedRefusal, closeViewRefusal, closeView, closeWindowRefusal, closeWindow}
 use Rattle.composition_close.specs.declared.shutdown.Closing.{Closing}

@@ -10,7 +10,7 @@ use Rattle.lists.specs.Tables.{Shape, entriesOf, pushed}
 use Rattle.lists.proofs.ListLaws.{by-test}
 use Rattle.handles.specs.Slots.{usedPlaces}
 use Rattle.handles.specs.declared.arena.Arena.{Arena}
-use Rattle.handles.specs.declared.handle.GenerationalHandle.{GenerationalHandle}
+use Rattle.handles.specs.declared.GenerationalHandle.{GenerationalHandle}
 use Rattle.composition_close.specs.declared.shutdown.Closing.{Closing}
 use Rattle.composition_close.specs.Shutdown.{layerClosed, layersClosed}
 use Rattle.composition_close.proofs.TopLaws.{below, below-all, below-next}

@@ -1,17 +1,17 @@
 -- Document 01, Panels: close 11/12, 8/9, 22, 21, after 42. What a refusal has written: 21 comes after the change; 22 leaves the panel out of its view, with focus, captures and IME already moved.
 use mathlib.Core.Bool.{cond}
 use Rattle.handles.specs.Slots.{released}
-use Rattle.handles.specs.declared.handle.GenerationalHandle.{GenerationalHandle}
-use Rattle.composition_state.specs.declared.error.Outcome.{Outcome}
-use Rattle.composition_state.specs.declared.error.Outcome.the-variants.{Accepted, Refused}
+use Rattle.handles.specs.declared.GenerationalHandle.{GenerationalHandle}
+use Rattle.records.specs.declared.error.Outcome.{Outcome}
+use Rattle.records.specs.declared.error.Outcome.the-variants.{Accepted, Refused}
 use Rattle.composition_state.specs.declared.registry.CompositionRegistry.{CompositionRegistry}
 use Rattle.composition_state.specs.declared.registry.Changed.{Changed}
 use Rattle.composition_state.specs.Damage.{damageRefusal}
-use Rattle.composition_state.specs.Errors.{thenRefusal, isAccepted}
+use Rattle.records.specs.Errors.{thenRefusal, isAccepted}
 use Rattle.composition_state.specs.Registry.{withViews, withSurfaces, withShortcuts, settled}
-use Rattle.composition_state.specs.Shortcuts.{shortcutsWithout}
-use Rattle.composition_state.specs.Surfaces.{surfaceRefusal, surfacesWith}
-use Rattle.composition_state.specs.Views.{viewAt, viewRefusal, withView}
+use Rattle.records.specs.Shortcuts.{shortcutsWithout}
+use Rattle.records.specs.Surfaces.{surfaceRefusal, surfacesWith}
+use Rattle.records.specs.Views.{viewAt, viewRefusal, withView}
 use Rattle.composition_panels.specs.Windows.{exhaustedRefusal}
 use Rattle.composition_close.specs.declared.answer.SurfaceCloseReport.{SurfaceCloseReport}
 use Rattle.composition_close.specs.declared.answer.SurfaceClosed.{SurfaceClosed}

@@ -8,19 +8,19 @@ use lib.ListN.{length}
 use Rattle.lists.specs.Lists.{keep, first}
 use Rattle.lists.specs.Tables.{entriesOf, packed}
 use Rattle.handles.specs.Handles.{sameHandle, holdsHandle}
-use Rattle.handles.specs.declared.handle.GenerationalHandle.{GenerationalHandle}
-use Rattle.handles.specs.declared.handle.OptionalHandle.{OptionalHandle}
-use Rattle.handles.specs.declared.handle.OptionalHandle.the-variants as O
+use Rattle.handles.specs.declared.GenerationalHandle.{GenerationalHandle}
+use Rattle.handles.specs.declared.OptionalHandle.{OptionalHandle}
+use Rattle.handles.specs.declared.OptionalHandle.the-variants as O
 use Rattle.maps.specs.Captures.{captures}
 use Rattle.maps.specs.MapTables.{retained}
 use Rattle.maps.specs.declared.captures.Capture.{Capture}
-use Rattle.composition_state.specs.declared.layers.Layers.{Layers}
-use Rattle.composition_state.specs.declared.surface.SurfaceTable.{SurfaceTable}
-use Rattle.composition_state.specs.declared.view.ViewRecord.{ViewRecord}
-use Rattle.composition_state.specs.declared.view.ViewTable.{ViewTable}
-use Rattle.composition_state.specs.Layers.{layers, layersWithout, isLive}
-use Rattle.composition_state.specs.Surfaces.{isInteractive, surfaceStatus, descriptorOf}
-use Rattle.composition_state.specs.Views.{viewAt}
+use Rattle.records.specs.declared.layers.Layers.{Layers}
+use Rattle.records.specs.declared.surface.SurfaceTable.{SurfaceTable}
+use Rattle.records.specs.declared.view.ViewRecord.{ViewRecord}
+use Rattle.records.specs.declared.view.ViewTable.{ViewTable}
+use Rattle.records.specs.Layers.{layers, layersWithout, isLive}
+use Rattle.records.specs.Surfaces.{isInteractive, surfaceStatus, descriptorOf}
+use Rattle.records.specs.Views.{viewAt}
 use Rattle.composition_close.specs.declared.answer.SurfaceCloseReport.{SurfaceCloseReport}
 use Rattle.composition_close.specs.Reports.{releases, releaseList}
 

@@ -5,7 +5,7 @@ use mathlib.Core.List.{List, [], _∷_, _++_}
 use Rattle.lists.specs.Tables.{Shape, packed}
 use Rattle.handles.specs.Handles.{handleOf}
 use Rattle.handles.specs.Slots.{handlesTable}
-use Rattle.handles.specs.declared.handle.OptionalHandle.the-variants.{None}
+use Rattle.handles.specs.declared.OptionalHandle.the-variants.{None}
 use Rattle.composition_close.specs.declared.answer.SurfaceRelease.{SurfaceRelease}
 use Rattle.composition_close.specs.declared.answer.SurfaceRelease.the-variants.{Focus, PointerCapture, ImeComposition}
 use Rattle.composition_close.specs.declared.answer.ReleasedInput.{ReleasedInput}

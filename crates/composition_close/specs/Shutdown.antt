@@ -9,17 +9,17 @@ use Rattle.lists.specs.Below.{iterBelow}
 use Rattle.lists.specs.Tables.{entriesOf, packed, pushed}
 use Rattle.handles.specs.Handles.{handleOf}
 use Rattle.handles.specs.Slots.{slotAt, released, usedPlaces, noneExhausted, handlesTable, liveHandles}
-use Rattle.handles.specs.declared.handle.GenerationalHandle.{GenerationalHandle}
+use Rattle.handles.specs.declared.GenerationalHandle.{GenerationalHandle}
 use Rattle.handles.specs.declared.arena.Arena.{Arena}
-use Rattle.composition_state.specs.declared.error.CompositionError.the-variants.{RevisionExhausted, GenerationExhausted}
-use Rattle.composition_state.specs.declared.error.Outcome.{Outcome}
-use Rattle.composition_state.specs.declared.error.Outcome.the-variants.{Accepted, Refused}
+use Rattle.records.specs.declared.error.CompositionError.the-variants.{RevisionExhausted, GenerationExhausted}
+use Rattle.records.specs.declared.error.Outcome.{Outcome}
+use Rattle.records.specs.declared.error.Outcome.the-variants.{Accepted, Refused}
 use Rattle.composition_state.specs.declared.registry.CompositionRegistry.{CompositionRegistry}
 use Rattle.composition_state.specs.Damage.{damageRefusal, viewHandle}
-use Rattle.composition_state.specs.Errors.{thenRefusal, refusalIf}
-use Rattle.composition_state.specs.Layers.{layers}
+use Rattle.records.specs.Errors.{thenRefusal, refusalIf}
+use Rattle.records.specs.Layers.{layers}
 use Rattle.composition_state.specs.Registry.{withWindows, withViews, advanced}
-use Rattle.composition_state.specs.Views.{viewAt, viewSlots, viewsWith}
+use Rattle.records.specs.Views.{viewAt, viewSlots, viewsWith}
 use Rattle.composition_close.specs.declared.answer.Shutdown.{Shutdown}
 use Rattle.composition_close.specs.declared.shutdown.Closing.{Closing}
 use Rattle.composition_close.specs.Reports.{closeReports, noShutdown}

@@ -5,11 +5,11 @@ ghost use mathlib.Core.List.{[]};
 ghost use Prim.Native.Nat.{_<_};
 ghost use Rattle.lists.specs.Tables.{packed, pushed};
 ghost use Rattle.composition_close.specs.Reports.{releases, entryOf, releaseList, noReport, closeReports, noShutdown};
-use composition_state::error::Outcome;
 use composition_state::registry::CompositionRegistry;
+use handles::GenerationalHandle;
+use handles::OptionalHandle;
 use handles::arena::Handles;
-use handles::handle::GenerationalHandle;
-use handles::handle::OptionalHandle;
+use records::error::Outcome;
 
 pub enum SurfaceRelease {
     Focus,

@@ -6,21 +6,18 @@ use crate::answer::SurfaceClosed;
 use crate::detach::close_report;
 use crate::detach::detached_view;
 use composition_panels::answer::refuse_exhausted;
-use composition_state::error::Outcome;
 use composition_state::registry::Changed;
 use composition_state::registry::CompositionRegistry;
-use handles::handle::GenerationalHandle;
+use handles::GenerationalHandle;
+use records::error::Outcome;
 
 // The refusals that leave the registry as it came.
 fn close_refusal(registry: CompositionRegistry, surface: GenerationalHandle) -> Outcome
     ensures { λ r. ⌜ r ≡ closeRefusal registry surface ⌝ }
 {
-    let surfaces = registry.surfaces;
-    let views = registry.views;
-    let descriptor = surfaces.descriptor(surface);
-    let owner = descriptor.view;
-    let own_view = views.refusal(owner);
-    let live = surfaces.refusal(surface);
+    let descriptor = registry.surfaces.descriptor(surface);
+    let own_view = registry.views.refusal(descriptor.view);
+    let live = registry.surfaces.refusal(surface);
     registry.damage().then(live.then(own_view))
 }
 
@@ -28,26 +25,23 @@ fn close_refusal(registry: CompositionRegistry, surface: GenerationalHandle) -> 
 pub fn detach(registry: CompositionRegistry, surface: GenerationalHandle) -> CompositionRegistry
     ensures { λ r. ⌜ r ≡ detached surface registry ⌝ }
 {
-    let surfaces = registry.surfaces;
-    let views = registry.views;
-    let descriptor = surfaces.descriptor(surface);
-    let owner = descriptor.view;
-    let view = detached_view(surfaces, views.record(owner), surface);
-    registry.with_views(views.with_record(owner, view))
+    let descriptor = registry.surfaces.descriptor(surface);
+    let view = detached_view(
+        registry.surfaces,
+        registry.views.record(descriptor.view),
+        surface,
+    );
+    registry.with_views(registry.views.with_record(descriptor.view, view))
 }
 
 // The registry with the panel's slot released and its registrations dropped.
 pub fn free_slot(registry: CompositionRegistry, surface: GenerationalHandle) -> CompositionRegistry
     ensures { λ r. ⌜ r ≡ freed surface registry ⌝ }
 {
-    let surfaces = registry.surfaces;
-    let slots = surfaces.arena;
-    let shortcuts = registry.shortcuts;
-    let release = handles::arena::release(slots, surface);
-    let arena = release.arena;
+    let release = handles::arena::release(registry.surfaces.arena, surface);
     registry
-        .with_surfaces(surfaces.with_arena(arena))
-        .with_shortcuts(shortcuts.without(surface.index))
+        .with_surfaces(registry.surfaces.with_arena(release.arena))
+        .with_shortcuts(registry.shortcuts.without(surface.index))
 }
 
 fn closed_with(report: SurfaceCloseReport, changed: Changed) -> SurfaceClosed
@@ -76,17 +70,18 @@ pub fn close_surface(registry: CompositionRegistry, surface: GenerationalHandle)
 {
     match close_refusal(registry, surface) {
         Outcome::Accepted => {
-            let surfaces = registry.surfaces;
-            let views = registry.views;
-            let slots = surfaces.arena;
-            let release = handles::arena::release(slots, surface);
+            let release = handles::arena::release(registry.surfaces.arena, surface);
             let released = release.outcome;
             let exhausted = refuse_exhausted(released);
             let left = detach(registry, surface);
             let changed = left.settle(exhausted, free_slot(left, surface));
-            let after = changed.registry;
             closed_with(
-                close_report(surfaces, views, surface, after.revision),
+                close_report(
+                    registry.surfaces,
+                    registry.views,
+                    surface,
+                    changed.registry.revision,
+                ),
                 changed,
             )
         }

@@ -4,23 +4,22 @@ ghost use mathlib.Core.Bool.{cond};
 ghost use Rattle.composition_close.specs.Detach.{takesFocus, topmost, restoredFocus, hadCapture, detachedView, closeReport};
 use crate::answer::SurfaceCloseReport;
 use crate::answer::SurfaceReleases;
-use composition_state::layers::Layers;
-use composition_state::surface::SurfaceTable;
-use composition_state::surface::is_interactive;
-use composition_state::view::ViewRecord;
-use composition_state::view::ViewTable;
+use handles::GenerationalHandle;
+use handles::OptionalHandle;
 use handles::arena::SlotStatus;
-use handles::handle::GenerationalHandle;
-use handles::handle::OptionalHandle;
-use handles::handle::holds;
+use handles::holds;
 use maps::tests::EntryTest;
+use records::layers::Layers;
+use records::surface::SurfaceTable;
+use records::surface::is_interactive;
+use records::view::ViewRecord;
+use records::view::ViewTable;
 
 // Whether a layer is a live panel that can have the focus.
 fn takes_focus(surfaces: SurfaceTable, at: GenerationalHandle) -> bool
     ensures { λ r. ⌜ r ≡ takesFocus surfaces at ⌝ }
 {
-    let arena = surfaces.arena;
-    match handles::arena::lookup(arena, at) {
+    match handles::arena::lookup(surfaces.arena, at) {
         SlotStatus::Live => {
             let descriptor = surfaces.descriptor(at);
             let input = descriptor.input;
@@ -65,9 +64,8 @@ fn restored_focus(
     ensures { λ r. ⌜ r ≡ restoredFocus surfaces view surface ⌝ }
 {
     let focus = view.focus;
-    let layers = view.surfaces;
     let records = surfaces.records;
-    let remaining = layers.remove(records, surface);
+    let remaining = view.surfaces.remove(records, surface);
     choose(
         holds(focus, surface),
         topmost_focus(surfaces, remaining),
@@ -80,8 +78,7 @@ fn had_capture(view: ViewRecord, surface: GenerationalHandle) -> bool
     ensures { λ r. ⌜ r ≡ hadCapture view surface ⌝ }
 {
     let holder = view.pointer_capture;
-    let captures = view.pointer_captures;
-    let own = captures.retain(EntryTest::OnSurface(surface));
+    let own = view.pointer_captures.retain(EntryTest::OnSurface(surface));
     if holds(holder, surface) {
         return true;
     }
@@ -97,18 +94,17 @@ pub fn detached_view(
 {
     let window = view.window;
     let metrics = view.metrics;
-    let layers = view.surfaces;
     let focused = view.focus;
     let holder = view.pointer_capture;
-    let captures = view.pointer_captures;
     let composing = view.ime;
     let records = surfaces.records;
-    let remaining = layers.remove(records, surface);
+    let remaining = view.surfaces.remove(records, surface);
     let restored = restored_focus(surfaces, view, surface);
     let focus = choose(holds(focused, surface), restored, focused);
     let captured = had_capture(view, surface);
     let pointer_capture = choose(captured, OptionalHandle::None, holder);
-    let pointer_captures = captures.retain(EntryTest::NotOnSurface(surface));
+    let pointer_captures = view.pointer_captures
+        .retain(EntryTest::NotOnSurface(surface));
     let ime = choose(holds(composing, surface), OptionalHandle::None, composing);
     ViewRecord {
         window,
@@ -131,8 +127,7 @@ pub fn close_report(
     ensures { λ r. ⌜ r ≡ closeReport surfaces views surface revision ⌝ }
 {
     let descriptor = surfaces.descriptor(surface);
-    let owner = descriptor.view;
-    let view = views.record(owner);
+    let view = views.record(descriptor.view);
     let focus = view.focus;
     let ime = view.ime;
     let composing = holds(ime, surface);

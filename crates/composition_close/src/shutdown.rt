@@ -3,7 +3,7 @@ ghost use mathlib.Core.Path.{_≡_};
 ghost use mathlib.Core.List.{reverse};
 ghost use Prim.Native.Nat.{_+_, _≤_, _<_};
 ghost use Rattle.lists.specs.Tables.{entriesOf, pushed};
-ghost use Rattle.composition_state.specs.Layers.{layers};
+ghost use Rattle.records.specs.Layers.{layers};
 ghost use Rattle.composition_close.specs.Reports.{closeReports};
 ghost use Rattle.composition_close.specs.Shutdown.{isOver, shutdownRefusal, layerClosed, layersClosed, viewClosed, viewClosedAt, viewsClosed, windowClosedAt, windowsClosed, shutDown, shutdownOf};
 use crate::answer::CloseReports;
@@ -13,16 +13,16 @@ use crate::answer::SurfaceCloseReport;
 use crate::close::detach;
 use crate::close::free_slot;
 use crate::detach::close_report;
-use composition_state::error::CompositionError;
-use composition_state::error::Outcome;
-use composition_state::error::refuse_if;
-use composition_state::layers::Layers;
 use composition_state::registry::CompositionRegistry;
+use handles::GenerationalHandle;
 use handles::arena::live_handles;
 use handles::arena::preflight_release;
 use handles::arena::used_places;
-use handles::handle::GenerationalHandle;
 use lists::both;
+use records::error::CompositionError;
+use records::error::Outcome;
+use records::error::refuse_if;
+use records::layers::Layers;
 
 // The work so far: the registry, and the reports of the panels that are closed.
 pub struct Closing {
@@ -65,20 +65,15 @@ fn is_over(revision: u64, surfaces: usize, views: usize, windows: usize) -> bool
 fn shutdown_refusal(registry: CompositionRegistry) -> Outcome
     ensures { λ r. ⌜ r ≡ shutdownRefusal registry ⌝ }
 {
-    let windows = registry.windows;
-    let views = registry.views;
-    let surfaces = registry.surfaces;
-    let view_slots = views.arena;
-    let surface_slots = surfaces.arena;
     let over = is_over(
         registry.revision,
-        surface_slots.live,
-        view_slots.live,
-        windows.live,
+        registry.surfaces.arena.live,
+        registry.views.arena.live,
+        registry.windows.live,
     );
-    let panels_free = preflight_release(surface_slots);
-    let views_free = preflight_release(view_slots);
-    let windows_free = preflight_release(windows);
+    let panels_free = preflight_release(registry.surfaces.arena);
+    let views_free = preflight_release(registry.views.arena);
+    let windows_free = preflight_release(registry.windows);
     let free = both(windows_free, both(views_free, panels_free));
     let last_revision = refuse_if(over, CompositionError::RevisionExhausted);
     let last_generation = refuse_if(!free, CompositionError::GenerationExhausted);
@@ -89,14 +84,15 @@ fn close_layer(work: Closing, surface: GenerationalHandle) -> Closing
     requires { ⌜ work .reports .len < 256 ⌝ }
     ensures { λ r. ⌜ r ≡ layerClosed surface work ⌝ }
 {
-    let registry = work.registry;
-    let reports = work.reports;
-    let surfaces = registry.surfaces;
-    let views = registry.views;
-    let changed = free_slot(detach(registry, surface), surface).advance();
+    let changed = free_slot(detach(work.registry, surface), surface).advance();
     let after = changed.registry;
-    let report = close_report(surfaces, views, surface, after.revision);
-    let longer = reports.push(report);
+    let report = close_report(
+        work.registry.surfaces,
+        work.registry.views,
+        surface,
+        after.revision,
+    );
+    let longer = work.reports.push(report);
     Closing {
         registry: after,
         reports: longer,
@@ -122,11 +118,10 @@ fn close_layers(work: Closing, panels: Layers) -> Closing
 fn release_view(registry: CompositionRegistry, view: GenerationalHandle) -> CompositionRegistry
     ensures { λ r. ⌜ r ≡ viewClosed view registry ⌝ }
 {
-    let views = registry.views;
-    let slots = views.arena;
-    let release = handles::arena::release(slots, view);
-    let arena = release.arena;
-    let changed = registry.with_views(views.with_arena(arena)).advance();
+    let release = handles::arena::release(registry.views.arena, view);
+    let changed = registry
+        .with_views(registry.views.with_arena(release.arena))
+        .advance();
     changed.registry
 }
 
@@ -136,9 +131,7 @@ fn close_view_at(work: Closing, i: usize) -> Closing
     requires { ⌜ work .reports .len + 16 ≤ 256 ⌝ }
     ensures { λ r. ⌜ (r ≡ viewClosedAt i work) × (r .reports .len ≤ work .reports .len + 16) ⌝ }
 {
-    let registry = work.registry;
-    let views = registry.views;
-    let arena = views.arena;
+    let arena = work.registry.views.arena;
     let slots = arena.slots;
     let slot = handles::arena::slot_at(slots, i);
     if slot.filled {
@@ -146,12 +139,11 @@ fn close_view_at(work: Closing, i: usize) -> Closing
             index: i as u32,
             generation: slot.generation,
         };
-        let record = views.record(view);
+        let record = work.registry.views.record(view);
         let panels = record.surfaces;
         let done = close_layers(work, panels);
-        let left = done.registry;
         let reports = done.reports;
-        let after = release_view(left, view);
+        let after = release_view(done.registry, view);
         return Closing {
             registry: after,
             reports,
@@ -188,8 +180,7 @@ fn close_window_at(registry: CompositionRegistry, i: usize) -> CompositionRegist
             generation: slot.generation,
         };
         let release = handles::arena::release(windows, window);
-        let arena = release.arena;
-        let changed = registry.with_windows(arena).advance();
+        let changed = registry.with_windows(release.arena).advance();
         return changed.registry;
     }
     registry
@@ -212,15 +203,11 @@ fn close_windows(registry: CompositionRegistry) -> CompositionRegistry
 fn shut_down(registry: CompositionRegistry) -> Shutdown
     ensures { λ r. ⌜ r ≡ shutDown registry ⌝ }
 {
-    let windows = registry.windows;
-    let views = registry.views;
-    let view_slots = views.arena;
-    let closed_windows = live_handles(windows);
-    let closed_views = live_handles(view_slots);
+    let closed_windows = live_handles(registry.windows);
+    let closed_views = live_handles(registry.views.arena);
     let work = close_views(registry);
-    let left = work.registry;
     let reports = work.reports;
-    let after = close_windows(left);
+    let after = close_windows(work.registry);
     let report = CompositionShutdownReport {
         closed_surfaces: reports,
         closed_views,

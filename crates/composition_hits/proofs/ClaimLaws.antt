@@ -3,7 +3,7 @@ use mathlib.Core.Path.{ap, _∙_}
 use mathlib.Core.List.{reverse, reverse-reverse}
 use Rattle.lists.specs.Tables.{entriesOf}
 use Rattle.lists.proofs.ListLaws.{keep-reverse}
-use Rattle.composition_state.specs.Layers.{layers}
+use Rattle.records.specs.Layers.{layers}
 use Rattle.composition_hits.specs.Buffer.{written}
 use Rattle.composition_hits.specs.HitTest.{isLayerHit, layersOf, hitsAmong, viewHits, hitNumbers, bufferAfter}
 use Rattle.composition_hits.specs.Claims.{HitClaims}

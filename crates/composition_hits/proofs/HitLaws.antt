@@ -9,15 +9,15 @@ use lib.Seq.{drop-length}
 use Rattle.lists.specs.Lists.{keep}
 use Rattle.lists.specs.Tables.{entriesOf}
 use Rattle.lists.proofs.ListLaws.{by-test, keep-append, back-more}
-use Rattle.handles.specs.declared.handle.GenerationalHandle.{GenerationalHandle}
+use Rattle.handles.specs.declared.GenerationalHandle.{GenerationalHandle}
 use Rattle.geometry.specs.declared.transform.Point.{Point}
 use Rattle.geometry.specs.Surface.{isHit}
-use Rattle.composition_state.specs.declared.layers.Layers.{Layers}
-use Rattle.composition_state.specs.declared.surface.SurfaceRecord.{SurfaceRecord}
-use Rattle.composition_state.specs.declared.surface.SurfaceTable.{SurfaceTable}
-use Rattle.composition_state.specs.Layers.{layers, recordsOf}
-use Rattle.composition_state.specs.Surfaces.{noSurface}
-use Rattle.composition_state.proofs.LayerLaws.{record-here}
+use Rattle.records.specs.declared.layers.Layers.{Layers}
+use Rattle.records.specs.declared.surface.SurfaceRecord.{SurfaceRecord}
+use Rattle.records.specs.declared.surface.SurfaceTable.{SurfaceTable}
+use Rattle.records.specs.Layers.{layers, recordsOf}
+use Rattle.records.specs.Surfaces.{noSurface}
+use Rattle.records.proofs.LayerLaws.{record-here}
 use Rattle.composition_hits.specs.Buffer.{numbersOf, numbersIf, over, written}
 use Rattle.composition_hits.specs.HitTest.{isLayerHit}
 use Rattle.composition_hits.proofs.BufferLaws.{over-more, written-none, length-written}

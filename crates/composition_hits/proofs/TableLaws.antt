@@ -10,9 +10,9 @@ use Rattle.lists.specs.Lists.{keep}
 use Rattle.lists.specs.Tables.{entriesOf, packed}
 use Rattle.lists.proofs.ListLaws.{by-test, keep-append, length-keep, back-more}
 use Rattle.lists.proofs.TableLaws.{entries-packed}
-use Rattle.handles.specs.declared.handle.GenerationalHandle.{GenerationalHandle}
-use Rattle.composition_state.specs.declared.trace.Hits.{Hits}
-use Rattle.composition_state.specs.Traces.{hits}
+use Rattle.handles.specs.declared.GenerationalHandle.{GenerationalHandle}
+use Rattle.records.specs.declared.trace.Hits.{Hits}
+use Rattle.records.specs.Traces.{hits}
 use Rattle.composition_hits.specs.HitTest.{listedIf}
 use Rattle.composition_hits.proofs.HitLaws.{above}
 

@@ -7,15 +7,15 @@ use borrow.Author.Tests.{ltb-false}
 use lib.ListN.{length, take}
 use lib.Dec.{ltb}
 use Rattle.lists.proofs.ListLaws.{clash}
-use Rattle.handles.specs.declared.handle.GenerationalHandle.{GenerationalHandle}
+use Rattle.handles.specs.declared.GenerationalHandle.{GenerationalHandle}
 use Rattle.geometry.specs.declared.transform.Point.{Point}
-use Rattle.composition_state.specs.declared.error.CompositionError.the-variants.{PortLimit}
-use Rattle.composition_state.specs.declared.error.Outcome.{Outcome}
-use Rattle.composition_state.specs.declared.error.Outcome.the-variants.{Accepted, Refused}
+use Rattle.records.specs.declared.error.CompositionError.the-variants.{PortLimit}
+use Rattle.records.specs.declared.error.Outcome.{Outcome}
+use Rattle.records.specs.declared.error.Outcome.the-variants.{Accepted, Refused}
 use Rattle.composition_state.specs.declared.registry.CompositionRegistry.{CompositionRegistry}
 use Rattle.composition_state.specs.Damage.{damageRefusal}
-use Rattle.composition_state.specs.Errors.{isAccepted}
-use Rattle.composition_state.specs.Views.{viewRefusal}
+use Rattle.records.specs.Errors.{isAccepted}
+use Rattle.records.specs.Views.{viewRefusal}
 use Rattle.composition_state.proofs.SettleLaws.{accepted-eq, then-last, if-accepted}
 use Rattle.composition_hits.specs.declared.stack.HitTest.{HitTest}
 use Rattle.composition_hits.specs.Buffer.{numbersOf}

@@ -1,19 +1,19 @@
 -- What holds of every hit test. It answers no registry, so it alters none.
-use Prim.Native.Nat.{ℕ, _≤_}
+use Prim.Native.Nat.{ℕ}
 use mathlib.Core.Path.{_≡_}
-use mathlib.Core.Bool.{Bool, true}
-use mathlib.Core.List.{List, [], _∷_, _++_, reverse}
+use mathlib.Core.Bool.{Bool}
+use mathlib.Core.List.{List, _++_, reverse}
 use lib.ListN.{length, drop}
 use Rattle.lists.specs.Lists.{keep}
 use Rattle.lists.specs.Tables.{entriesOf}
 use Rattle.geometry.specs.declared.transform.Point.{Point}
-use Rattle.handles.specs.declared.handle.GenerationalHandle.{GenerationalHandle}
-use Rattle.composition_state.specs.declared.error.CompositionError.{CompositionError}
-use Rattle.composition_state.specs.declared.error.Outcome.the-variants.{Accepted, Refused}
+use Rattle.handles.specs.declared.GenerationalHandle.{GenerationalHandle}
+use Rattle.records.specs.declared.error.CompositionError.{CompositionError}
+use Rattle.records.specs.declared.error.Outcome.the-variants.{Accepted, Refused}
 use Rattle.composition_state.specs.declared.registry.CompositionRegistry.{CompositionRegistry}
-use Rattle.composition_state.specs.Layers.{layers}
+use Rattle.records.specs.Layers.{layers}
 use Rattle.composition_hits.specs.Buffer.{numbersOf}
-use Rattle.composition_hits.specs.HitTest.{isLayerHit, layersOf, viewHits, hitTestRefusal, hitNumbers, bufferAfter}
+use Rattle.composition_hits.specs.HitTest.{isLayerHit, layersOf, viewHits, hitTestRefusal, bufferAfter}
 
 pub record HitClaims : Type 0 where
   -- the hits, read from the last on, are the layers that pass the panel test, in layer order

@@ -8,19 +8,19 @@ use Rattle.lists.specs.Lists.{keep}
 use Rattle.lists.specs.Tables.{entriesOf}
 use Rattle.geometry.specs.Surface.{isHit}
 use Rattle.geometry.specs.declared.transform.Point.{Point}
-use Rattle.handles.specs.declared.handle.GenerationalHandle.{GenerationalHandle}
-use Rattle.composition_state.specs.declared.error.CompositionError.the-variants.{PortLimit}
-use Rattle.composition_state.specs.declared.error.Outcome.{Outcome}
-use Rattle.composition_state.specs.declared.error.Outcome.the-variants.{Accepted, Refused}
-use Rattle.composition_state.specs.declared.layers.Layers.{Layers}
+use Rattle.handles.specs.declared.GenerationalHandle.{GenerationalHandle}
+use Rattle.records.specs.declared.error.CompositionError.the-variants.{PortLimit}
+use Rattle.records.specs.declared.error.Outcome.{Outcome}
+use Rattle.records.specs.declared.error.Outcome.the-variants.{Accepted, Refused}
+use Rattle.records.specs.declared.layers.Layers.{Layers}
 use Rattle.composition_state.specs.declared.registry.CompositionRegistry.{CompositionRegistry}
-use Rattle.composition_state.specs.declared.surface.SurfaceTable.{SurfaceTable}
-use Rattle.composition_state.specs.declared.view.ViewTable.{ViewTable}
-use Rattle.composition_state.specs.Errors.{thenRefusal, refusalIf}
+use Rattle.records.specs.declared.surface.SurfaceTable.{SurfaceTable}
+use Rattle.records.specs.declared.view.ViewTable.{ViewTable}
+use Rattle.records.specs.Errors.{thenRefusal, refusalIf}
 use Rattle.composition_state.specs.Damage.{damageRefusal}
-use Rattle.composition_state.specs.Layers.{layers}
-use Rattle.composition_state.specs.Surfaces.{descriptorOf}
-use Rattle.composition_state.specs.Views.{viewAt, viewRefusal}
+use Rattle.records.specs.Layers.{layers}
+use Rattle.records.specs.Surfaces.{descriptorOf}
+use Rattle.records.specs.Views.{viewAt, viewRefusal}
 use Rattle.composition_hits.specs.declared.stack.HitTest.{HitTest}
 use Rattle.composition_hits.specs.Buffer.{numbersOf, written}
 

@@ -1,11 +1,10 @@
 // Handles as numbers in a lent buffer: the index, then the generation.
 ghost use mathlib.Core.Path.{_≡_};
-ghost use mathlib.Core.Bool.{cond};
 ghost use mathlib.Core.List.{[], _∷_};
 ghost use Prim.Native.Nat.{_+_, _≤_};
 ghost use lib.ListN.{length};
 ghost use Rattle.composition_hits.specs.Buffer.{over, numbersOf, numbersIf};
-use handles::handle::GenerationalHandle;
+use handles::GenerationalHandle;
 
 fn widened(n: u32) -> u64
     ensures { λ r. ⌜ r ≡ n ⌝ }

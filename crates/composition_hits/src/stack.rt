@@ -3,21 +3,21 @@ ghost use mathlib.Core.Path.{_≡_};
 ghost use Prim.Native.Nat.{_≤_};
 ghost use lib.ListN.{length};
 ghost use Rattle.lists.specs.Tables.{entriesOf};
-ghost use Rattle.composition_state.specs.Errors.{numberOf};
-ghost use Rattle.composition_state.specs.Layers.{layers as stateLayers};
+ghost use Rattle.records.specs.Errors.{numberOf};
+ghost use Rattle.records.specs.Layers.{layers as stateLayers};
 ghost use Rattle.geometry.specs.Surface.{isHit};
 ghost use Rattle.composition_hits.specs.Buffer.{written, numbersOf};
-ghost use Rattle.composition_hits.specs.HitTest.{hitsAmong, layersOf, hitTestRefusal, foundNumbers, hitNumbers, hitTest, bufferAfter};
-use composition_state::error::CompositionError;
-use composition_state::error::Outcome;
-use composition_state::error::number;
-use composition_state::layers::Layers;
+ghost use Rattle.composition_hits.specs.HitTest.{hitsAmong, layersOf, hitTestRefusal, hitNumbers, hitTest, bufferAfter};
 use composition_state::registry::CompositionRegistry;
-use composition_state::surface::SurfaceRecord;
-use composition_state::surface::SurfaceTable;
-use composition_state::view::ViewTable;
 use geometry::transform::Point;
-use handles::handle::GenerationalHandle;
+use handles::GenerationalHandle;
+use records::error::CompositionError;
+use records::error::Outcome;
+use records::error::number;
+use records::layers::Layers;
+use records::surface::SurfaceRecord;
+use records::surface::SurfaceTable;
+use records::view::ViewTable;
 
 // The refusal, and how many numbers stand at the front of the buffer.
 pub struct HitTest {
@@ -29,9 +29,10 @@ pub struct HitTest {
 pub fn is_record_hit(record: SurfaceRecord, point: Point) -> bool
     ensures { λ r. ⌜ r ≡ isHit («record» .descriptor .geometry) (point .«x_milli») (point .«y_milli») ⌝ }
 {
-    let descriptor = record.descriptor;
-    let geometry = descriptor.geometry;
-    geometry.is_hit(point.x_milli, point.y_milli)
+    record
+        .descriptor
+        .geometry
+        .is_hit(point.x_milli, point.y_milli)
 }
 
 // The hits' numbers at the front of the buffer. Answers how many numbers.
@@ -68,9 +69,10 @@ pub fn hit_test_refusal(
 ) -> Outcome
     ensures { λ r. ⌜ r ≡ hitTestRefusal registry view size ⌝ }
 {
-    let views = registry.views;
-    let short = composition_state::error::refuse_if(size < 32, CompositionError::PortLimit);
-    registry.damage().then(views.refusal(view).then(short))
+    let short = records::error::refuse_if(size < 32, CompositionError::PortLimit);
+    registry
+        .damage()
+        .then(registry.views.refusal(view).then(short))
 }
 
 // The whole promise: the refusal, how many numbers stand at the front, and the whole buffer afterwards.
@@ -85,10 +87,8 @@ pub fn hit_test_into(
 {
     let refusal = hit_test_refusal(registry, view, buffer.len());
     if refusal.is_accepted() {
-        let surfaces = registry.surfaces;
-        let views = registry.views;
-        let layers = layers_of(views, view);
-        let numbers = fill(surfaces, layers, point, buffer);
+        let layers = layers_of(registry.views, view);
+        let numbers = fill(registry.surfaces, layers, point, buffer);
         return HitTest {
             outcome: refusal,
             numbers,

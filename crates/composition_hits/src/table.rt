@@ -4,17 +4,17 @@ ghost use mathlib.Core.List.{_++_};
 ghost use Prim.Native.Nat.{_<_};
 ghost use lib.ListN.{length};
 ghost use Rattle.lists.specs.Tables.{entriesOf, packed, pushed};
-ghost use Rattle.composition_state.specs.Layers.{layers as stateLayers};
-ghost use Rattle.composition_state.specs.Traces.{hits as stateHits};
+ghost use Rattle.records.specs.Layers.{layers as stateLayers};
+ghost use Rattle.records.specs.Traces.{hits as stateHits};
 ghost use Rattle.composition_hits.specs.HitTest.{hitsAmong, listedIf, viewHits};
 use crate::stack::is_record_hit;
 use crate::stack::layers_of;
-use composition_state::layers::Layers;
 use composition_state::registry::CompositionRegistry;
-use composition_state::surface::SurfaceTable;
-use composition_state::trace::Hits;
 use geometry::transform::Point;
-use handles::handle::GenerationalHandle;
+use handles::GenerationalHandle;
+use records::layers::Layers;
+use records::surface::SurfaceTable;
+use records::trace::Hits;
 
 fn push(hits: Hits, surface: GenerationalHandle) -> Hits
     requires { ⌜ hits .len < 16 ⌝ }
@@ -58,7 +58,5 @@ fn list_hits(surfaces: SurfaceTable, layers: Layers, point: Point) -> Hits
 pub fn view_hits(registry: CompositionRegistry, view: GenerationalHandle, point: Point) -> Hits
     ensures { λ r. ⌜ r ≡ packed stateHits (viewHits registry view point) ⌝ }
 {
-    let surfaces = registry.surfaces;
-    let views = registry.views;
-    list_hits(surfaces, layers_of(views, view), point)
+    list_hits(registry.surfaces, layers_of(registry.views, view), point)
 }

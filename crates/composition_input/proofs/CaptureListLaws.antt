@@ -1,33 +1,23 @@
 -- A list of captures gathered from maps of captures: each map is copied entry by entry after what the list holds, and each has at most 32.
-use Prim.Native.Nat.{ℕ, _+_, _*_, _≤_, _<_}
+use Prim.Native.Nat.{ℕ, _+_, _*_, _≤_}
 use mathlib.Core.Path.{_≡_, sym, ap, _∙_}
-use mathlib.Core.List.{List, [], _++_, append-assoc}
-use native.Mathlib.Numerals.{add-one}
+use mathlib.Core.List.{List, [], _++_}
 use native.Mathlib.Omega.{arith}
 use borrow.Author.Tests.{ltb-true}
 use lib.Dec.{ltb}
-use lib.ListN.{length, take, getD, length-append, length-take}
-use lib.Seq.{take-suc}
+use lib.ListN.{length, length-append}
 use Rattle.lists.specs.Below.{iterBelow}
-use Rattle.lists.specs.Tables.{Shape, entriesOf, packed, pushed}
+use Rattle.lists.specs.Tables.{Shape, entriesOf, packed}
 use Rattle.lists.proofs.BelowLaws.{iter-more}
 use Rattle.lists.proofs.ListLaws.{by-test}
-use Rattle.lists.proofs.TableLaws.{entry, entries-packed, push-packed}
+use Rattle.lists.proofs.TableLaws.{entry, entries-packed}
 use Rattle.maps.specs.Captures.{captures}
 use Rattle.maps.specs.declared.captures.Capture.{Capture}
 use Rattle.maps.specs.declared.captures.PointerCaptures.{PointerCaptures}
-use Rattle.composition_state.specs.declared.view.ViewTable.{ViewTable}
-use Rattle.composition_state.specs.Views.{viewSlots}
-use Rattle.composition_input.specs.declared.answer.CaptureList.{CaptureList}
-use Rattle.composition_input.specs.Captures.{captureList}
-
--- ---- one turn of a loop that puts the entries of t after the list l of a table of another shape
-module _ {E T U : Type 0} (s : Shape E T) (u : Shape E U) (t : U) (i : ℕ) (d : E) (within : i < length (entriesOf u t)) (l : List E) (room : length l + length (entriesOf u t) ≤ s .size) where
-  pub copy-room : length (l ++ take i (entriesOf u t)) < s .size
-  copy-room = simp (length-append, length-take) (omega arith)
-
-  pub copy-turn : pushed s (packed s (l ++ take i (entriesOf u t))) (getD (u .all t) i d) ≡ packed s (l ++ take (i + 1) (entriesOf u t))
-  copy-turn = rw (add-one, take-suc (entriesOf u t) i d within, entry u t i d within, ← append-assoc) (push-packed s _ _ copy-room)
+use Rattle.records.specs.declared.view.ViewTable.{ViewTable}
+use Rattle.records.specs.Views.{viewSlots}
+use Rattle.release_lists.specs.declared.captures.CaptureList.{CaptureList}
+use Rattle.release_lists.specs.Captures.{captureList}
 
 -- ---- what the maps of the slots below n hold, slot by slot
 abbrev pub gathered : (ℕ → List Capture) → ℕ → List Capture

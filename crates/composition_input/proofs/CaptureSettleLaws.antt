@@ -2,22 +2,22 @@
 use Prim.Native.Nat.{ℕ}
 use mathlib.Core.Path.{_≡_, refl}
 use mathlib.Core.Bool.{Bool, true, false, cond, not}
-use Rattle.handles.specs.declared.handle.GenerationalHandle.{GenerationalHandle}
-use Rattle.handles.specs.declared.handle.OptionalHandle.the-variants as O
+use Rattle.handles.specs.declared.GenerationalHandle.{GenerationalHandle}
+use Rattle.handles.specs.declared.OptionalHandle.the-variants as O
 use Rattle.maps.specs.Keys.{pointerValid}
 use Rattle.maps.specs.MapTables.{accepts}
 use Rattle.maps.specs.Captures.{captures, captureKey, insertionOf}
 use Rattle.maps.specs.declared.keys.CompositionPointerId.{CompositionPointerId}
 use Rattle.maps.specs.declared.captures.CaptureInsertion.{CaptureInsertion}
 use Rattle.maps.specs.declared.captures.PointerCaptures.{PointerCaptures}
-use Rattle.composition_state.specs.declared.error.CompositionError.the-variants.{NotInteractive, PortLimit}
-use Rattle.composition_state.specs.declared.error.Outcome.{Outcome}
-use Rattle.composition_state.specs.declared.error.Outcome.the-variants.{Accepted, Refused}
+use Rattle.records.specs.declared.error.CompositionError.the-variants.{NotInteractive, PortLimit}
+use Rattle.records.specs.declared.error.Outcome.{Outcome}
+use Rattle.records.specs.declared.error.Outcome.the-variants.{Accepted, Refused}
 use Rattle.composition_state.specs.declared.registry.CompositionRegistry.{CompositionRegistry}
-use Rattle.composition_state.specs.Errors.{thenRefusal, refusalIf}
+use Rattle.records.specs.Errors.{thenRefusal, refusalIf}
 use Rattle.composition_state.specs.Registry.{settled}
-use Rattle.composition_state.specs.Surfaces.{surfaceRefusal}
-use Rattle.composition_state.specs.Views.{viewRefusal, withPointerCapture, withPointerCaptures}
+use Rattle.records.specs.Surfaces.{surfaceRefusal}
+use Rattle.records.specs.Views.{viewRefusal, withPointerCapture, withPointerCaptures}
 use Rattle.composition_input.specs.Focus.{entryRefusal, ownView, interactiveRefusal, withViewRecord}
 use Rattle.composition_input.specs.Captures.{isPrimary, capture, ownRecord, capturePointerFor}
 

@@ -7,18 +7,19 @@ use lib.Dec.{eqb}
 use lib.ListN.{length}
 use Rattle.lists.proofs.ListLaws.{by-test}
 use Rattle.lists.proofs.TableLaws.{len-packed}
-use Rattle.handles.specs.declared.handle.OptionalHandle.the-variants as O
+use Rattle.handles.specs.declared.OptionalHandle.the-variants as O
 use Rattle.composition_input.specs.Focus.{ownView, withViewRecord, focusRefusal, setFocus, beginImeRefusal, beginIme, endImeRefusal, endIme, suspendRefusal, suspendedView, suspendViewInput}
-use Rattle.composition_input.specs.Captures.{primary, ownRecord, captureRefusal, capturedView, capturePointerFor, releasedView, releaseForRefusal, releasePointerFor, releaseRefusal, releasePointer, captureList, deviceCaptures, deviceCleared, deviceRefusal, capturesReleased, releaseDevicePointerCaptures}
+use Rattle.release_lists.specs.Captures.{captureList}
+use Rattle.composition_input.specs.Captures.{primary, ownRecord, captureRefusal, capturedView, capturePointerFor, releasedView, releaseForRefusal, releasePointerFor, releaseRefusal, releasePointer, deviceCaptures, deviceCleared, deviceRefusal, capturesReleased, releaseDevicePointerCaptures}
 use Rattle.composition_input.specs.Claims.{Settled, ReleaseSettles, InputClaims}
 use Rattle.maps.specs.declared.captures.Capture.{Capture}
-use Rattle.composition_state.specs.declared.error.Outcome.{Outcome}
-use Rattle.composition_state.specs.declared.error.Outcome.the-variants.{Accepted}
+use Rattle.records.specs.declared.error.Outcome.{Outcome}
+use Rattle.records.specs.declared.error.Outcome.the-variants.{Accepted}
 use Rattle.composition_state.specs.declared.registry.CompositionRegistry.{CompositionRegistry}
 use Rattle.composition_state.specs.declared.registry.Changed.{Changed}
-use Rattle.composition_state.specs.Errors.{isAccepted}
+use Rattle.records.specs.Errors.{isAccepted}
 use Rattle.composition_state.specs.Registry.{withViews, settled, answered}
-use Rattle.composition_state.specs.Views.{viewAt, withFocus, withIme}
+use Rattle.records.specs.Views.{viewAt, withFocus, withIme}
 use Rattle.composition_state.proofs.SettleLaws as settle
 
 module _ (r changed : CompositionRegistry) (same : changed .revision ≡ r .revision) where

@@ -1,37 +1,36 @@
 -- Document 01, Capture: 20, 18 for a bad pointer, 11/12, 18, 8/9, 41, 21. Release of a pointer: 20, 11/12, 8/9, 18, 21. Device captures: 18, 21. Each after 42.
 use Prim.Native.Nat.{ℕ}
-use mathlib.Core.Bool.{Bool, true, false, cond, not, _&&_, _||_}
+use mathlib.Core.Bool.{Bool, cond, not, _||_}
 use mathlib.Core.List.{List, [], _++_}
-use mathlib.Core.Path.{refl}
 use lib.ListN.{length}
 use lib.Dec.{eqb}
 use Rattle.lists.specs.Lists.{keep}
 use Rattle.lists.specs.Below.{iterBelow}
-use Rattle.lists.specs.Tables.{Shape, entriesOf, packed}
-use Rattle.handles.specs.Handles.{handleOf, holdsHandle}
+use Rattle.lists.specs.Tables.{entriesOf, packed}
+use Rattle.handles.specs.Handles.{holdsHandle}
 use Rattle.handles.specs.Slots.{slotAt}
-use Rattle.handles.specs.declared.handle.GenerationalHandle.{GenerationalHandle}
-use Rattle.handles.specs.declared.handle.OptionalHandle.the-variants as O
+use Rattle.handles.specs.declared.GenerationalHandle.{GenerationalHandle}
+use Rattle.handles.specs.declared.OptionalHandle.the-variants as O
 use Rattle.maps.specs.Keys.{pointerValid, pointerKey, keySame, deviceSame}
 use Rattle.maps.specs.MapTables.{isSome, found, removed, retained, accepts, inserted}
 use Rattle.maps.specs.Captures.{captures, captureKey, surfaceOf}
 use Rattle.maps.specs.declared.keys.CompositionPointerId.{CompositionPointerId}
 use Rattle.maps.specs.declared.captures.Capture.{Capture}
 use Rattle.maps.specs.declared.captures.PointerCaptures.{PointerCaptures}
-use Rattle.composition_state.specs.declared.error.CompositionError.the-variants.{NotInteractive, PortLimit}
-use Rattle.composition_state.specs.declared.error.Outcome.{Outcome}
-use Rattle.composition_state.specs.declared.error.Outcome.the-variants.{Accepted, Refused}
+use Rattle.release_lists.specs.Captures.{captureList}
+use Rattle.records.specs.declared.error.CompositionError.the-variants.{NotInteractive, PortLimit}
+use Rattle.records.specs.declared.error.Outcome.{Outcome}
+use Rattle.records.specs.declared.error.Outcome.the-variants.{Accepted, Refused}
 use Rattle.composition_state.specs.declared.registry.CompositionRegistry.{CompositionRegistry}
 use Rattle.composition_state.specs.declared.registry.Changed.{Changed}
-use Rattle.composition_state.specs.declared.view.ViewRecord.{ViewRecord}
-use Rattle.composition_state.specs.declared.view.ViewTable.{ViewTable}
-use Rattle.composition_state.specs.Errors.{thenRefusal, refusalIf, isAccepted}
+use Rattle.records.specs.declared.view.ViewRecord.{ViewRecord}
+use Rattle.records.specs.declared.view.ViewTable.{ViewTable}
+use Rattle.records.specs.Errors.{thenRefusal, refusalIf, isAccepted}
 use Rattle.composition_state.specs.Damage.{damageRefusal, viewHandle}
 use Rattle.composition_state.specs.Registry.{withViews, settled, answered}
-use Rattle.composition_state.specs.Surfaces.{surfaceRefusal}
-use Rattle.composition_state.specs.Views.{viewAt, viewRefusal, viewSlots, withView, withPointerCapture, withPointerCaptures}
+use Rattle.records.specs.Surfaces.{surfaceRefusal}
+use Rattle.records.specs.Views.{viewAt, viewRefusal, viewSlots, withView, withPointerCapture, withPointerCaptures}
 use Rattle.composition_input.specs.Focus.{entryRefusal, ownView, interactiveRefusal, withViewRecord}
-use Rattle.composition_input.specs.declared.answer.CaptureList.{CaptureList}
 use Rattle.composition_input.specs.declared.answer.CapturesReleased.{CapturesReleased}
 
 -- document 01, Modules: PRIMARY, the pointer of device 1, generation 1, contact 0
@@ -103,18 +102,6 @@ releasePointer r surface expected =
     (withViewRecord (ownView r surface) (releasedView primary (ownRecord r surface)) r)
 
 -- ---- device captures: of every live view in slot order, then by pointer
--- up to 32 captures in each of 16 views
-abbrev pub captureList : Shape Capture CaptureList
-captureList = record {
-  size = 512;
-  blank = capture (record { device = 0; «device_generation» = 0; contact = 0 }) (handleOf 0 0);
-  make = λ l n. record { items = l; len = n };
-  all = λ t. t .items;
-  len = λ t. t .len;
-  all-make = λ l n. refl;
-  len-make = λ l n. refl;
-}
-
 -- a capture of the device
 abbrev pub isOfDevice : ℕ → ℕ → Capture → Bool
 isOfDevice device generation e = deviceSame (captureKey e) (record { value = device; generation = generation })

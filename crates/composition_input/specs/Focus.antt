@@ -4,23 +4,23 @@ use mathlib.Core.Bool.{Bool, true, false, not}
 use mathlib.Core.List.{[]}
 use Rattle.lists.specs.Tables.{packed}
 use Rattle.handles.specs.Handles.{sameHandle, holdsHandle}
-use Rattle.handles.specs.declared.handle.GenerationalHandle.{GenerationalHandle}
-use Rattle.handles.specs.declared.handle.OptionalHandle.{OptionalHandle}
-use Rattle.handles.specs.declared.handle.OptionalHandle.the-variants as O
+use Rattle.handles.specs.declared.GenerationalHandle.{GenerationalHandle}
+use Rattle.handles.specs.declared.OptionalHandle.{OptionalHandle}
+use Rattle.handles.specs.declared.OptionalHandle.the-variants as O
 use Rattle.maps.specs.Captures.{captures}
-use Rattle.composition_state.specs.declared.error.CompositionError.the-variants.{WrongView, NotInteractive, TextUnsupported}
-use Rattle.composition_state.specs.declared.error.Outcome.{Outcome}
-use Rattle.composition_state.specs.declared.error.Outcome.the-variants.{Accepted}
+use Rattle.records.specs.declared.error.CompositionError.the-variants.{WrongView, NotInteractive, TextUnsupported}
+use Rattle.records.specs.declared.error.Outcome.{Outcome}
+use Rattle.records.specs.declared.error.Outcome.the-variants.{Accepted}
 use Rattle.composition_state.specs.declared.registry.CompositionRegistry.{CompositionRegistry}
 use Rattle.composition_state.specs.declared.registry.Changed.{Changed}
-use Rattle.composition_state.specs.declared.surface.SurfaceDescriptor.{SurfaceDescriptor}
-use Rattle.composition_state.specs.declared.view.ViewRecord.{ViewRecord}
-use Rattle.composition_state.specs.declared.view.ViewInputState.{ViewInputState}
-use Rattle.composition_state.specs.Errors.{thenRefusal, refusalIf, isAccepted}
+use Rattle.records.specs.declared.surface.SurfaceDescriptor.{SurfaceDescriptor}
+use Rattle.records.specs.declared.view.ViewRecord.{ViewRecord}
+use Rattle.records.specs.declared.view.ViewInputState.{ViewInputState}
+use Rattle.records.specs.Errors.{thenRefusal, refusalIf, isAccepted}
 use Rattle.composition_state.specs.Damage.{damageRefusal}
 use Rattle.composition_state.specs.Registry.{withViews, conflictRefusal, settled}
-use Rattle.composition_state.specs.Surfaces.{isInteractive, descriptorOf, surfaceRefusal}
-use Rattle.composition_state.specs.Views.{viewAt, viewRefusal, withView, withFocus, withIme, withPointerCapture, withPointerCaptures, inputState}
+use Rattle.records.specs.Surfaces.{isInteractive, descriptorOf, surfaceRefusal}
+use Rattle.records.specs.Views.{viewAt, viewRefusal, withView, withFocus, withIme, withPointerCapture, withPointerCaptures, inputState}
 use Rattle.composition_input.specs.declared.answer.Suspended.{Suspended}
 use Rattle.composition_input.specs.declared.answer.OptionalInputState.{OptionalInputState}
 use Rattle.composition_input.specs.declared.answer.OptionalInputState.the-variants as S

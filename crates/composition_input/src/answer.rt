@@ -1,8 +1,8 @@
 // What these calls answer beside the refusal and the registry.
-use composition_state::error::Outcome;
 use composition_state::registry::CompositionRegistry;
-use composition_state::view::ViewInputState;
-use maps::captures::Capture;
+use records::error::Outcome;
+use records::view::ViewInputState;
+use release_lists::captures::CaptureList;
 
 pub enum OptionalInputState {
     None,
@@ -14,12 +14,6 @@ pub struct Suspended {
     pub outcome: Outcome,
     pub released: OptionalInputState,
     pub registry: CompositionRegistry,
-}
-
-// Captures by view slot, then pointer: up to 32 in each of 16 views.
-pub struct CaptureList {
-    pub items: [Capture; 512],
-    pub len: usize,
 }
 
 pub struct CapturesReleased {

@@ -1,29 +1,23 @@
 // Pointer captures: taken by a panel, released by it, and released with their device.
 ghost use mathlib.Core.Path.{_≡_};
 ghost use mathlib.Core.Bool.{cond, _||_};
-ghost use mathlib.Core.List.{List, [], _++_};
-ghost use Prim.Native.Nat.{_+_, _≤_, _<_};
+ghost use mathlib.Core.List.{List};
+ghost use Prim.Native.Nat.{_+_, _<_};
 ghost use lib.Dec.{eqb};
-ghost use lib.ListN.{length};
-ghost use Rattle.lists.specs.Tables.{entriesOf, packed, pushed};
+ghost use Rattle.lists.specs.Tables.{packed};
 ghost use Rattle.maps.specs.Captures.{captures};
 ghost use Rattle.maps.specs.declared.captures.Capture.{Capture};
-ghost use Rattle.composition_state.specs.Views.{withPointerCapture, withPointerCaptures};
-ghost use Rattle.composition_input.specs.Captures.{primary, isPrimary, capturePointerFor, releasePointerFor, releasePointer, captureList, losesPrimary, leftView, takenAt, deviceCaptures, clearedAt, deviceCleared, capturesReleased, releaseDevicePointerCaptures};
-use crate::answer::CaptureList;
+ghost use Rattle.release_lists.specs.Captures.{captureList};
+ghost use Rattle.records.specs.Views.{withPointerCapture, withPointerCaptures};
+ghost use Rattle.composition_input.specs.Captures.{primary, isPrimary, capturePointerFor, releasePointerFor, releasePointer, losesPrimary, leftView, takenAt, deviceCaptures, clearedAt, deviceCleared, capturesReleased, releaseDevicePointerCaptures};
 use crate::answer::CapturesReleased;
 use crate::refusal::entry_refusal;
 use crate::refusal::owner_refusal;
-use composition_state::error::CompositionError;
-use composition_state::error::refuse_if;
 use composition_state::registry::Changed;
 use composition_state::registry::CompositionRegistry;
-use composition_state::surface::is_interactive;
-use composition_state::view::ViewRecord;
-use composition_state::view::ViewTable;
-use handles::handle::GenerationalHandle;
-use handles::handle::OptionalHandle;
-use handles::handle::holds;
+use handles::GenerationalHandle;
+use handles::OptionalHandle;
+use handles::holds;
 use maps::captures::Capture;
 use maps::captures::PointerCaptures;
 use maps::keys::CompositionPointerId;
@@ -32,6 +26,12 @@ use maps::keys::key_same;
 use maps::keys::pointer_key;
 use maps::tests::EntryTest;
 use maps::tests::KeyTest;
+use records::error::CompositionError;
+use records::error::refuse_if;
+use records::surface::is_interactive;
+use records::view::ViewRecord;
+use records::view::ViewTable;
+use release_lists::captures::CaptureList;
 
 fn is_primary(pointer: CompositionPointerId) -> bool
     ensures { λ r. ⌜ r ≡ isPrimary pointer ⌝ }
@@ -66,27 +66,24 @@ pub fn capture_pointer_for(
 ) -> Changed
     ensures { λ r. ⌜ r ≡ capturePointerFor registry pointer surface «expected_revision» ⌝ }
 {
-    let views = registry.views;
-    let surfaces = registry.surfaces;
-    let descriptor = surfaces.descriptor(surface);
-    let view = descriptor.view;
+    let descriptor = registry.surfaces.descriptor(surface);
     let input = descriptor.input;
-    let record = views.record(view);
+    let record = registry.views.record(descriptor.view);
     let captures = record.pointer_captures;
     let insertion = captures.insert(Capture { pointer, surface });
     let taken = insertion.captures;
     let unknown = refuse_if(!pointer.is_valid(), CompositionError::NotInteractive);
     let inactive = refuse_if(!is_interactive(input), CompositionError::NotInteractive);
     let full = refuse_if(!insertion.inserted, CompositionError::PortLimit);
-    let later = inactive.then(views.refusal(view).then(full));
+    let later = inactive.then(registry.views.refusal(descriptor.view).then(full));
     let refusal = entry_refusal(registry, expected_revision).then(unknown.then(
-        surfaces.refusal(surface).then(later),
+        registry.surfaces.refusal(surface).then(later),
     ));
     let touched = is_primary(pointer);
     let captured = with_captures(record, taken, touched, OptionalHandle::Some(surface));
     registry.settle(
         refusal,
-        registry.with_views(views.with_record(view, captured)),
+        registry.with_views(registry.views.with_record(descriptor.view, captured)),
     )
 }
 
@@ -113,11 +110,8 @@ pub fn release_pointer_for(
 ) -> Changed
     ensures { λ r. ⌜ r ≡ releasePointerFor registry pointer surface «expected_revision» ⌝ }
 {
-    let views = registry.views;
-    let surfaces = registry.surfaces;
-    let descriptor = surfaces.descriptor(surface);
-    let view = descriptor.view;
-    let record = views.record(view);
+    let descriptor = registry.surfaces.descriptor(surface);
+    let record = registry.views.record(descriptor.view);
     let captures = record.pointer_captures;
     let holder = captures.get(pointer);
     let other = refuse_if(!holds(holder, surface), CompositionError::NotInteractive);
@@ -127,7 +121,7 @@ pub fn release_pointer_for(
     let released = with_captures(record, left, touched, OptionalHandle::None);
     registry.settle(
         refusal,
-        registry.with_views(views.with_record(view, released)),
+        registry.with_views(registry.views.with_record(descriptor.view, released)),
     )
 }
 
@@ -139,11 +133,8 @@ pub fn release_pointer(
 ) -> Changed
     ensures { λ r. ⌜ r ≡ releasePointer registry surface «expected_revision» ⌝ }
 {
-    let views = registry.views;
-    let surfaces = registry.surfaces;
-    let descriptor = surfaces.descriptor(surface);
-    let view = descriptor.view;
-    let record = views.record(view);
+    let descriptor = registry.surfaces.descriptor(surface);
+    let record = registry.views.record(descriptor.view);
     let captures = record.pointer_captures;
     let holder = record.pointer_capture;
     let other = refuse_if(!holds(holder, surface), CompositionError::NotInteractive);
@@ -152,57 +143,8 @@ pub fn release_pointer(
     let released = with_captures(record, left, true, OptionalHandle::None);
     registry.settle(
         refusal,
-        registry.with_views(views.with_record(view, released)),
+        registry.with_views(registry.views.with_record(descriptor.view, released)),
     )
-}
-
-impl CaptureList {
-    fn new() -> Self
-        ensures { λ r. ⌜ r ≡ packed captureList [] ⌝ }
-    {
-        let pointer = CompositionPointerId {
-            device: 0,
-            device_generation: 0,
-            contact: 0,
-        };
-        let surface = GenerationalHandle {
-            index: 0,
-            generation: 0,
-        };
-        let blank = Capture { pointer, surface };
-        Self {
-            items: [blank; 512],
-            len: 0,
-        }
-    }
-
-    fn push(self, entry: Capture) -> Self
-        requires { ⌜ self .len < 512 ⌝ }
-        ensures { λ r. ⌜ r ≡ pushed captureList self entry ⌝ }
-    {
-        let at = self.len;
-        let mut next = self;
-        next.items[at] = entry;
-        next.len = at + 1;
-        next
-    }
-
-    // The list with the entries of a map put after its own; a map has at most 32.
-    fn extend(self, from: PointerCaptures) -> Self
-        requires { ⌜ self ≡ packed captureList (entriesOf captureList self) ⌝ }
-        requires { ⌜ length (entriesOf captureList self) + 32 ≤ 512 ⌝ }
-        ensures { λ r. ⌜ (r ≡ packed captureList (entriesOf captureList self ++ entriesOf captures from)) × (length (entriesOf captures from) ≤ 32) ⌝ }
-    {
-        let mut next = self;
-        let n = from.count();
-        let mut i = 0;
-        while i < n {
-            let entry = from.entries[i];
-            next = next.push(entry);
-            i += 1;
-        }
-        next
-    }
 }
 
 // Whether PRIMARY is among the captures of the device.
@@ -225,13 +167,13 @@ fn loses_primary(captures: PointerCaptures, device: u64, generation: u32) -> boo
 fn left_view(view: ViewRecord, device: u64, generation: u32) -> ViewRecord
     ensures { λ r. ⌜ r ≡ leftView device generation view ⌝ }
 {
-    let captures = view.pointer_captures;
     let id = InputDeviceId {
         value: device,
         generation,
     };
-    let left = captures.retain(EntryTest::Key(KeyTest::NotOfDevice(id)));
-    let touched = loses_primary(captures, device, generation);
+    let left = view.pointer_captures
+        .retain(EntryTest::Key(KeyTest::NotOfDevice(id)));
+    let touched = loses_primary(view.pointer_captures, device, generation);
     with_captures(view, left, touched, OptionalHandle::None)
 }
 
@@ -342,8 +284,7 @@ pub fn release_device_pointer_captures(
 ) -> CapturesReleased
     ensures { λ r. ⌜ r ≡ releaseDevicePointerCaptures registry device «device_generation» ⌝ }
 {
-    let views = registry.views;
-    let list = device_captures(views, device, device_generation);
+    let list = device_captures(registry.views, device, device_generation);
     let unknown = refuse_if(
         is_no_device(device, device_generation),
         CompositionError::NotInteractive,
@@ -358,6 +299,6 @@ pub fn release_device_pointer_captures(
             },
         );
     }
-    let cleared = device_cleared(views, device, device_generation);
+    let cleared = device_cleared(registry.views, device, device_generation);
     released_with(list, registry.settle(refusal, registry.with_views(cleared)))
 }

@@ -4,19 +4,19 @@ ghost use Rattle.composition_input.specs.Focus.{focusTargetRefusal, setF
 use crate::answer::OptionalInputState;
 use crate::answer::Suspended;
 use crate::refusal::entry_refusal;
-use composition_state::error::CompositionError;
-use composition_state::error::Outcome;
-use composition_state::error::refuse_if;
 use composition_state::registry::Changed;
 use composition_state::registry::CompositionRegistry;
-use composition_state::surface::is_interactive;
-use composition_state::view::ViewInputState;
-use composition_state::view::ViewRecord;
-use handles::handle::GenerationalHandle;
-use handles::handle::OptionalHandle;
-use handles::handle::holds;
-use handles::handle::same_handle;
+use handles::GenerationalHandle;
+use handles::OptionalHandle;
+use handles::holds;
+use handles::same_handle;
 use maps::captures::PointerCaptures;
+use records::error::CompositionError;
+use records::error::Outcome;
+use records::error::refuse_if;
+use records::surface::is_interactive;
+use records::view::ViewInputState;
+use records::view::ViewRecord;
 
 // What a panel that cannot take the focus of the view refuses; no panel is always taken.
 fn focus_target_refusal(
@@ -29,13 +29,17 @@ fn focus_target_refusal(
     match target {
         OptionalHandle::None => Outcome::Accepted,
         OptionalHandle::Some(surface) => {
-            let surfaces = registry.surfaces;
-            let descriptor = surfaces.descriptor(surface);
-            let own_view = descriptor.view;
+            let descriptor = registry.surfaces.descriptor(surface);
             let input = descriptor.input;
-            let other_view = refuse_if(!same_handle(own_view, view), CompositionError::WrongView);
+            let other_view = refuse_if(
+                !same_handle(descriptor.view, view),
+                CompositionError::WrongView,
+            );
             let inactive = refuse_if(!is_interactive(input), CompositionError::NotInteractive);
-            surfaces.refusal(surface).then(other_view.then(inactive))
+            registry
+                .surfaces
+                .refusal(surface)
+                .then(other_view.then(inactive))
         }
     }
 }
@@ -48,13 +52,14 @@ pub fn set_focus(
 ) -> Changed
     ensures { λ r. ⌜ r ≡ setFocus registry view surface «expected_revision» ⌝ }
 {
-    let views = registry.views;
     let target = focus_target_refusal(registry, view, surface);
-    let refusal = entry_refusal(registry, expected_revision).then(target.then(views.refusal(view)));
-    let record = views.record(view).with_focus(surface);
+    let refusal = entry_refusal(registry, expected_revision).then(target.then(
+        registry.views.refusal(view),
+    ));
+    let record = registry.views.record(view).with_focus(surface);
     registry.settle(
         refusal,
-        registry.with_views(views.with_record(view, record)),
+        registry.with_views(registry.views.with_record(view, record)),
     )
 }
 
@@ -65,21 +70,22 @@ pub fn begin_ime(
 ) -> Changed
     ensures { λ r. ⌜ r ≡ beginIme registry surface «expected_revision» ⌝ }
 {
-    let views = registry.views;
     let surfaces = registry.surfaces;
     let descriptor = surfaces.descriptor(surface);
-    let view = descriptor.view;
-    let record = views.record(view);
+    let record = registry.views.record(descriptor.view);
     let focus = record.focus;
     let no_text = refuse_if(!descriptor.accepts_text, CompositionError::TextUnsupported);
     let unfocused = refuse_if(!holds(focus, surface), CompositionError::NotInteractive);
     let refusal = entry_refusal(registry, expected_revision).then(
-        surfaces
-            .refusal(surface)
-            .then(no_text.then(views.refusal(view).then(unfocused))),
+        surfaces.refusal(surface).then(no_text.then(
+            registry.views.refusal(descriptor.view).then(unfocused),
+        )),
     );
     let begun = record.with_ime(OptionalHandle::Some(surface));
-    registry.settle(refusal, registry.with_views(views.with_record(view, begun)))
+    registry.settle(
+        refusal,
+        registry.with_views(registry.views.with_record(descriptor.view, begun)),
+    )
 }
 
 pub fn end_ime(
@@ -89,20 +95,21 @@ pub fn end_ime(
 ) -> Changed
     ensures { λ r. ⌜ r ≡ endIme registry surface «expected_revision» ⌝ }
 {
-    let views = registry.views;
     let surfaces = registry.surfaces;
     let descriptor = surfaces.descriptor(surface);
-    let view = descriptor.view;
-    let record = views.record(view);
+    let record = registry.views.record(descriptor.view);
     let ime = record.ime;
     let not_begun = refuse_if(!holds(ime, surface), CompositionError::NotInteractive);
     let refusal = entry_refusal(registry, expected_revision).then(
         surfaces
             .refusal(surface)
-            .then(views.refusal(view).then(not_begun)),
+            .then(registry.views.refusal(descriptor.view).then(not_begun)),
     );
     let ended = record.with_ime(OptionalHandle::None);
-    registry.settle(refusal, registry.with_views(views.with_record(view, ended)))
+    registry.settle(
+        refusal,
+        registry.with_views(registry.views.with_record(descriptor.view, ended)),
+    )
 }
 
 // A view with no focus, capture or composition.
@@ -141,13 +148,15 @@ pub fn suspend_view_input(
 ) -> Suspended
     ensures { λ r. ⌜ r ≡ suspendViewInput registry view «expected_revision» ⌝ }
 {
-    let views = registry.views;
-    let record = views.record(view);
-    let refusal = entry_refusal(registry, expected_revision).then(views.refusal(view));
+    let record = registry.views.record(view);
+    let refusal = entry_refusal(registry, expected_revision).then(registry.views.refusal(view));
     let state = record.input_state();
     let next = suspended_view(record);
     suspended_with(
         state,
-        registry.settle(refusal, registry.with_views(views.with_record(view, next))),
+        registry.settle(
+            refusal,
+            registry.with_views(registry.views.with_record(view, next)),
+        ),
     )
 }

@@ -2,9 +2,9 @@
 ghost use mathlib.Core.Path.{_≡_};
 ghost use Rattle.composition_input.specs.Focus.{entryRefusal};
 ghost use Rattle.composition_input.specs.Captures.{ownerRefusal};
-use composition_state::error::Outcome;
 use composition_state::registry::CompositionRegistry;
-use handles::handle::GenerationalHandle;
+use handles::GenerationalHandle;
+use records::error::Outcome;
 
 // How every call with an expected revision starts.
 pub fn entry_refusal(registry: CompositionRegistry, expected_revision: u64) -> Outcome
@@ -24,11 +24,11 @@ pub fn owner_refusal(
 ) -> Outcome
     ensures { λ r. ⌜ r ≡ ownerRefusal registry surface «expected_revision» ⌝ }
 {
-    let views = registry.views;
-    let surfaces = registry.surfaces;
-    let descriptor = surfaces.descriptor(surface);
-    let view = descriptor.view;
+    let descriptor = registry.surfaces.descriptor(surface);
     entry_refusal(registry, expected_revision).then(
-        surfaces.refusal(surface).then(views.refusal(view)),
+        registry
+            .surfaces
+            .refusal(surface)
+            .then(registry.views.refusal(descriptor.view)),
     )
 }

@@ -1,27 +1,27 @@
 -- The claims about these calls: each settles a refusal or a change that keeps the revision, and the layers' laws are those of an insertion in order.
-use Prim.Native.Nat.{ℕ, _+_, _≤_}
-use mathlib.Core.Path.{_≡_, refl, sym, _∙_}
+use Prim.Native.Nat.{_+_, _≤_}
+use mathlib.Core.Path.{_≡_, refl}
 use mathlib.Core.Bool.{true}
 use mathlib.Core.List.{List}
 use native.Mathlib.Omega.{arith}
 use borrow.Author.Tests.{lt-ltb}
 use lib.Dec.{ltb}
 use lib.ListN.{length}
-use Rattle.lists.specs.Tables.{entriesOf, packed}
-use Rattle.lists.specs.Maps.{insert, rising}
+use Rattle.lists.specs.Tables.{entriesOf}
+use Rattle.lists.specs.Maps.{insert}
 use Rattle.lists.proofs.ListLaws.{by-test}
 use Rattle.lists.proofs.TableLaws.{entries-packed}
-use Rattle.handles.specs.declared.handle.GenerationalHandle.{GenerationalHandle}
-use Rattle.composition_state.specs.declared.layers.Layers.{Layers}
-use Rattle.composition_state.specs.declared.surface.SurfaceRecord.{SurfaceRecord}
-use Rattle.composition_state.specs.Layers.{layers, itself, layerLt, layersWith, layersRise}
+use Rattle.handles.specs.declared.GenerationalHandle.{GenerationalHandle}
+use Rattle.records.specs.declared.layers.Layers.{Layers}
+use Rattle.records.specs.declared.surface.SurfaceRecord.{SurfaceRecord}
+use Rattle.records.specs.Layers.{layers, itself, layerLt, layersWith, layersRise}
 use Rattle.composition_state.specs.declared.registry.CompositionRegistry.{CompositionRegistry}
-use Rattle.composition_state.specs.declared.surface.SurfaceInputPolicy.{SurfaceInputPolicy}
+use Rattle.records.specs.declared.surface.SurfaceInputPolicy.{SurfaceInputPolicy}
 use Rattle.composition_state.specs.Registry.{withWindows, withViews, withSurfaces}
-use Rattle.composition_state.specs.Surfaces.{surfaceAt, withSurface, withGeometry, withInput}
-use Rattle.composition_state.specs.Views.{freshView, viewAt, withView, viewsWith, withMetrics}
+use Rattle.records.specs.Surfaces.{surfaceAt, withSurface, withGeometry, withInput}
+use Rattle.records.specs.Views.{freshView, viewAt, withView, viewsWith, withMetrics}
 use Rattle.handles.specs.Slots.{released}
-use Rattle.composition_state.proofs.LayerLaws as layer
+use Rattle.records.proofs.LayerLaws as layer
 use Rattle.composition_state.proofs.SettleLaws.{settles, accepted-is}
 use Rattle.composition_panels.specs.Windows.{newWindow, newView, createWindowRefusal, createWindow, closeWindowRefusal, closeWindow, createViewRefusal, createView, closeViewRefusal, closeView}
 use Rattle.composition_panels.specs.Metrics.{metricsRefusal, newMetrics, updateViewMetrics}

@@ -8,17 +8,17 @@ use Rattle.lists.specs.Tables.{entriesOf}
 use Rattle.lists.specs.Maps.{insert}
 use Rattle.geometry.specs.declared.metrics.ViewMetricsUpdate.{ViewMetricsUpdate}
 use Rattle.geometry.specs.declared.surface.SurfaceGeometry.{SurfaceGeometry}
-use Rattle.handles.specs.declared.handle.GenerationalHandle.{GenerationalHandle}
-use Rattle.composition_state.specs.declared.error.Outcome.the-variants.{Accepted}
+use Rattle.handles.specs.declared.GenerationalHandle.{GenerationalHandle}
+use Rattle.records.specs.declared.error.Outcome.the-variants.{Accepted}
 use Rattle.composition_state.specs.declared.registry.CompositionRegistry.{CompositionRegistry}
-use Rattle.composition_state.specs.declared.surface.SurfaceDescriptor.{SurfaceDescriptor}
-use Rattle.composition_state.specs.declared.surface.SurfaceInputPolicy.{SurfaceInputPolicy}
-use Rattle.composition_state.specs.declared.surface.SurfaceRecord.{SurfaceRecord}
-use Rattle.composition_state.specs.declared.layers.Layers.{Layers}
-use Rattle.composition_state.specs.Layers.{layers, itself, layerLt, layersWith, layersRise}
+use Rattle.records.specs.declared.surface.SurfaceDescriptor.{SurfaceDescriptor}
+use Rattle.records.specs.declared.surface.SurfaceInputPolicy.{SurfaceInputPolicy}
+use Rattle.records.specs.declared.surface.SurfaceRecord.{SurfaceRecord}
+use Rattle.records.specs.declared.layers.Layers.{Layers}
+use Rattle.records.specs.Layers.{layers, itself, layerLt, layersWith, layersRise}
 use Rattle.composition_state.specs.Registry.{withRevision, withSurfaces}
 use Rattle.composition_state.specs.Settles.{Settles}
-use Rattle.composition_state.specs.Surfaces.{surfaceAt, withSurface, withInput}
+use Rattle.records.specs.Surfaces.{surfaceAt, withSurface, withInput}
 use Rattle.composition_panels.specs.Windows.{createWindow, closeWindow, createView, closeView}
 use Rattle.composition_panels.specs.Metrics.{updateViewMetrics}
 use Rattle.composition_panels.specs.Panels.{attachSurface, updateSurfaceGeometry, updateSurfaceInputPolicy}

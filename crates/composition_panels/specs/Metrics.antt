@@ -5,15 +5,15 @@ use lib.Dec.{eqb}
 use Rattle.geometry.specs.Metrics.{isValidMetrics, atRevision}
 use Rattle.geometry.specs.declared.metrics.ViewMetrics.{ViewMetrics}
 use Rattle.geometry.specs.declared.metrics.ViewMetricsUpdate.{ViewMetricsUpdate}
-use Rattle.handles.specs.declared.handle.GenerationalHandle.{GenerationalHandle}
-use Rattle.composition_state.specs.declared.error.CompositionError.the-variants.{InvalidMetrics, RevisionConflict, RevisionExhausted}
-use Rattle.composition_state.specs.declared.error.Outcome.{Outcome}
+use Rattle.handles.specs.declared.GenerationalHandle.{GenerationalHandle}
+use Rattle.records.specs.declared.error.CompositionError.the-variants.{InvalidMetrics, RevisionConflict, RevisionExhausted}
+use Rattle.records.specs.declared.error.Outcome.{Outcome}
 use Rattle.composition_state.specs.declared.registry.CompositionRegistry.{CompositionRegistry}
 use Rattle.composition_state.specs.declared.registry.Changed.{Changed}
-use Rattle.composition_state.specs.Errors.{thenRefusal, refusalIf, isAccepted}
+use Rattle.records.specs.Errors.{thenRefusal, refusalIf, isAccepted}
 use Rattle.composition_state.specs.Damage.{damageRefusal}
 use Rattle.composition_state.specs.Registry.{withViews, conflictRefusal, settled}
-use Rattle.composition_state.specs.Views.{viewAt, viewRefusal, withView, withMetrics}
+use Rattle.records.specs.Views.{viewAt, viewRefusal, withView, withMetrics}
 use Rattle.composition_panels.specs.declared.answer.OptionalMetrics.{OptionalMetrics}
 use Rattle.composition_panels.specs.declared.answer.OptionalMetrics.the-variants.{None, Some}
 use Rattle.composition_panels.specs.declared.answer.MetricsUpdated.{MetricsUpdated}

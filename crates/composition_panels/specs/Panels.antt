@@ -8,24 +8,24 @@ use Rattle.lists.specs.Tables.{entriesOf}
 use Rattle.geometry.specs.Surface.{isValidGeometry}
 use Rattle.geometry.specs.declared.surface.SurfaceGeometry.{SurfaceGeometry}
 use Rattle.handles.specs.Slots.{allocated}
-use Rattle.handles.specs.declared.handle.GenerationalHandle.{GenerationalHandle}
+use Rattle.handles.specs.declared.GenerationalHandle.{GenerationalHandle}
 use Rattle.handles.specs.declared.arena.Allocation.{Allocation}
-use Rattle.composition_state.specs.declared.error.CompositionError.the-variants.{Capacity, PerViewCapacity, InvalidGeometry}
-use Rattle.composition_state.specs.declared.error.Outcome.{Outcome}
+use Rattle.records.specs.declared.error.CompositionError.the-variants.{Capacity, PerViewCapacity, InvalidGeometry}
+use Rattle.records.specs.declared.error.Outcome.{Outcome}
 use Rattle.composition_state.specs.declared.registry.CompositionRegistry.{CompositionRegistry}
 use Rattle.composition_state.specs.declared.registry.Changed.{Changed}
-use Rattle.composition_state.specs.declared.surface.SurfaceDescriptor.{SurfaceDescriptor}
-use Rattle.composition_state.specs.declared.surface.SurfaceInputPolicy.{SurfaceInputPolicy}
-use Rattle.composition_state.specs.declared.surface.SurfaceRecord.{SurfaceRecord}
-use Rattle.composition_state.specs.declared.surface.SurfaceTable.{SurfaceTable}
-use Rattle.composition_state.specs.declared.view.ViewTable.{ViewTable}
-use Rattle.composition_state.specs.Errors.{thenRefusal, refusalIf}
+use Rattle.records.specs.declared.surface.SurfaceDescriptor.{SurfaceDescriptor}
+use Rattle.records.specs.declared.surface.SurfaceInputPolicy.{SurfaceInputPolicy}
+use Rattle.records.specs.declared.surface.SurfaceRecord.{SurfaceRecord}
+use Rattle.records.specs.declared.surface.SurfaceTable.{SurfaceTable}
+use Rattle.records.specs.declared.view.ViewTable.{ViewTable}
+use Rattle.records.specs.Errors.{thenRefusal, refusalIf}
 use Rattle.composition_state.specs.Damage.{damageRefusal}
-use Rattle.composition_state.specs.Layers.{layers, layersWith}
+use Rattle.records.specs.Layers.{layers, layersWith}
 use Rattle.composition_state.specs.Registry.{withViews, withSurfaces, withShortcuts, conflictRefusal, settled}
-use Rattle.composition_state.specs.Shortcuts.{shortcutsWithout}
-use Rattle.composition_state.specs.Surfaces.{surfaceAt, surfaceRefusal, withSurface, surfacesWith, withGeometry, withInput}
-use Rattle.composition_state.specs.Views.{viewAt, viewRefusal, withView, withLayers}
+use Rattle.records.specs.Shortcuts.{shortcutsWithout}
+use Rattle.records.specs.Surfaces.{surfaceAt, surfaceRefusal, withSurface, surfacesWith, withGeometry, withInput}
+use Rattle.records.specs.Views.{viewAt, viewRefusal, withView, withLayers}
 use Rattle.composition_panels.specs.declared.answer.Created.{Created}
 use Rattle.composition_panels.specs.Windows.{created}
 

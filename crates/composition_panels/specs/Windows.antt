@@ -1,29 +1,29 @@
 -- Document 01, Windows and views: create window 3, 21; close window 5/6, 7, 22, 21; create view 5/6, 3, 21; close view 8/9, 10, 22, 21. Each after 42.
 use Prim.Native.Nat.{ℕ}
-use mathlib.Core.Bool.{Bool, true, false, cond, not, _&&_}
+use mathlib.Core.Bool.{Bool, true, false, not, _&&_}
 use lib.ListN.{length}
-use lib.Dec.{eqb, leb}
+use lib.Dec.{eqb}
 use Rattle.lists.specs.Below.{allBelow}
 use Rattle.lists.specs.Tables.{entriesOf}
 use Rattle.handles.specs.Handles.{sameHandle}
 use Rattle.handles.specs.Slots.{slotAt, allocated, released}
-use Rattle.handles.specs.declared.handle.GenerationalHandle.{GenerationalHandle}
-use Rattle.handles.specs.declared.handle.OptionalHandle.{OptionalHandle}
-use Rattle.handles.specs.declared.handle.OptionalHandle.the-variants.{None, Some}
+use Rattle.handles.specs.declared.GenerationalHandle.{GenerationalHandle}
+use Rattle.handles.specs.declared.OptionalHandle.{OptionalHandle}
+use Rattle.handles.specs.declared.OptionalHandle.the-variants.{None, Some}
 use Rattle.handles.specs.declared.arena.Allocation.{Allocation}
 use Rattle.handles.specs.declared.arena.ReleaseOutcome.{ReleaseOutcome}
 use Rattle.handles.specs.declared.arena.ReleaseOutcome.the-variants as release
-use Rattle.composition_state.specs.declared.error.CompositionError.the-variants.{Capacity, WindowInUse, ViewInUse, GenerationExhausted}
-use Rattle.composition_state.specs.declared.error.Outcome.{Outcome}
-use Rattle.composition_state.specs.declared.error.Outcome.the-variants.{Accepted, Refused}
+use Rattle.records.specs.declared.error.CompositionError.the-variants.{Capacity, WindowInUse, ViewInUse, GenerationExhausted}
+use Rattle.records.specs.declared.error.Outcome.{Outcome}
+use Rattle.records.specs.declared.error.Outcome.the-variants.{Accepted, Refused}
 use Rattle.composition_state.specs.declared.registry.CompositionRegistry.{CompositionRegistry}
 use Rattle.composition_state.specs.declared.registry.Changed.{Changed}
-use Rattle.composition_state.specs.declared.view.ViewTable.{ViewTable}
-use Rattle.composition_state.specs.Errors.{thenRefusal, refusalIf, isAccepted}
+use Rattle.records.specs.declared.view.ViewTable.{ViewTable}
+use Rattle.records.specs.Errors.{thenRefusal, refusalIf, isAccepted}
 use Rattle.composition_state.specs.Damage.{damageRefusal, viewHandle}
-use Rattle.composition_state.specs.Layers.{layers}
+use Rattle.records.specs.Layers.{layers}
 use Rattle.composition_state.specs.Registry.{withWindows, withViews, windowRefusal, settled}
-use Rattle.composition_state.specs.Views.{freshView, viewAt, viewRefusal, viewSlots, withView, viewsWith}
+use Rattle.records.specs.Views.{freshView, viewAt, viewRefusal, viewSlots, withView, viewsWith}
 use Rattle.composition_panels.specs.declared.answer.Created.{Created}
 
 -- a creating call answers its handle if it is accepted

@@ -1,14 +1,14 @@
 // What these calls answer beside the refusal and the registry.
 ghost use mathlib.Core.Path.{_≡_};
 ghost use Rattle.composition_panels.specs.Windows.{created, exhaustedRefusal};
-use composition_state::error::CompositionError;
-use composition_state::error::Outcome;
 use composition_state::registry::Changed;
 use composition_state::registry::CompositionRegistry;
 use geometry::metrics::ViewMetrics;
+use handles::GenerationalHandle;
+use handles::OptionalHandle;
 use handles::arena::ReleaseOutcome;
-use handles::handle::GenerationalHandle;
-use handles::handle::OptionalHandle;
+use records::error::CompositionError;
+use records::error::Outcome;
 
 // The answer of a creating call: the handle stands if it is accepted.
 pub struct Created {

@@ -4,13 +4,13 @@ ghost use Prim.Native.Nat.{_+_};
 ghost use Rattle.composition_panels.specs.Metrics.{metricsRefusal, nextMetrics, metricsUpdated, updateViewMetrics};
 use crate::answer::MetricsUpdated;
 use crate::answer::OptionalMetrics;
-use composition_state::error::CompositionError;
-use composition_state::error::Outcome;
 use composition_state::registry::Changed;
 use composition_state::registry::CompositionRegistry;
 use geometry::metrics::ViewMetrics;
 use geometry::metrics::ViewMetricsUpdate;
-use handles::handle::GenerationalHandle;
+use handles::GenerationalHandle;
+use records::error::CompositionError;
+use records::error::Outcome;
 
 fn metrics_refusal(
     registry: CompositionRegistry,
@@ -20,15 +20,14 @@ fn metrics_refusal(
 ) -> Outcome
     ensures { λ r. ⌜ r ≡ metricsRefusal registry view update expected ⌝ }
 {
-    let views = registry.views;
-    let record = views.record(view);
+    let record = registry.views.record(view);
     let current = record.metrics;
     let valid = geometry::metrics::validate_view_metrics(update);
-    let invalid = composition_state::error::refuse_if(!valid, CompositionError::InvalidMetrics);
+    let invalid = records::error::refuse_if(!valid, CompositionError::InvalidMetrics);
     let last = current.revision == 18446744073709551615;
-    let exhausted = composition_state::error::refuse_if(last, CompositionError::RevisionExhausted);
+    let exhausted = records::error::refuse_if(last, CompositionError::RevisionExhausted);
     let conflict = composition_state::registry::expect_revision(current.revision, expected);
-    let live = views.refusal(view);
+    let live = registry.views.refusal(view);
     registry
         .damage()
         .then(invalid.then(live.then(conflict.then(exhausted))))
@@ -71,11 +70,12 @@ pub fn update_view_metrics(
 ) -> MetricsUpdated
     ensures { λ r. ⌜ r ≡ updateViewMetrics registry view update «expected_metrics_revision» ⌝ }
 {
-    let views = registry.views;
-    let record = views.record(view);
+    let record = registry.views.record(view);
     let current = record.metrics;
     let metrics = next_metrics(current, update);
-    let changed = views.with_record(view, record.with_metrics(metrics));
+    let changed = registry
+        .views
+        .with_record(view, record.with_metrics(metrics));
     let refusal = metrics_refusal(registry, view, update, expected_metrics_revision);
     metrics_with(
         metrics,

@@ -2,43 +2,37 @@
 ghost use mathlib.Core.Path.{_≡_};
 ghost use Rattle.composition_panels.specs.Panels.{layerCount, attachRefusal, surfaceAdded, layerAdded, attached, attachSurface, geometryRefusal, updateSurfaceGeometry, policyRefusal, updateSurfaceInputPolicy};
 use crate::answer::Created;
-use composition_state::error::CompositionError;
-use composition_state::error::Outcome;
 use composition_state::registry::Changed;
 use composition_state::registry::CompositionRegistry;
-use composition_state::surface::SurfaceDescriptor;
-use composition_state::surface::SurfaceInputPolicy;
-use composition_state::surface::SurfaceRecord;
-use composition_state::surface::SurfaceTable;
-use composition_state::view::ViewTable;
 use geometry::surface::SurfaceGeometry;
+use handles::GenerationalHandle;
 use handles::arena::Allocation;
-use handles::handle::GenerationalHandle;
+use records::error::CompositionError;
+use records::error::Outcome;
+use records::surface::SurfaceDescriptor;
+use records::surface::SurfaceInputPolicy;
+use records::surface::SurfaceRecord;
+use records::surface::SurfaceTable;
+use records::view::ViewTable;
 
 fn layer_count(views: ViewTable, view: GenerationalHandle) -> usize
     ensures { λ r. ⌜ r ≡ layerCount views view ⌝ }
 {
     let record = views.record(view);
-    let surfaces = record.surfaces;
-    surfaces.count()
+    record.surfaces.count()
 }
 
 fn attach_refusal(registry: CompositionRegistry, descriptor: SurfaceDescriptor) -> Outcome
     ensures { λ r. ⌜ r ≡ attachRefusal registry descriptor ⌝ }
 {
-    let views = registry.views;
-    let surfaces = registry.surfaces;
-    let arena = surfaces.arena;
-    let limits = registry.limits;
-    let view = descriptor.view;
-    let geometry = descriptor.geometry;
-    let full = (arena.live as u64) == limits.max_surfaces;
-    let capacity = composition_state::error::refuse_if(full, CompositionError::Capacity);
-    let layered = (layer_count(views, view) as u64) == limits.max_surfaces_per_view;
-    let per_view = composition_state::error::refuse_if(layered, CompositionError::PerViewCapacity);
-    let live = views.refusal(view);
-    let valid = geometry::surface::validate_geometry(geometry);
-    let invalid = composition_state::error::refuse_if(!valid, CompositionError::InvalidGeometry);
+    let full = (registry.surfaces.arena.live as u64) == registry.limits.max_surfaces;
+    let capacity = records::error::refuse_if(full, CompositionError::Capacity);
+    let layered = (layer_count(registry.views, descriptor.view) as u64)
+        == registry.limits.max_surfaces_per_view;
+    let per_view = records::error::refuse_if(layered, CompositionError::PerViewCapacity);
+    let live = registry.views.refusal(descriptor.view);
+    let valid = geometry::surface::validate_geometry(descriptor.geometry);
+    let invalid = records::error::refuse_if(!valid, CompositionError::InvalidGeometry);
     registry
         .damage()
         .then(invalid.then(live.then(per_view.then(capacity))))
@@ -52,9 +46,8 @@ fn add_surface(
     ensures { λ r. ⌜ r ≡ surfaceAdded made descriptor surfaces ⌝ }
 {
     let handle = made.handle;
-    let arena = made.arena;
     surfaces
-        .with_arena(arena)
+        .with_arena(made.arena)
         .with_record(handle, SurfaceRecord { descriptor })
 }
 
@@ -67,8 +60,10 @@ fn add_layer(
     ensures { λ r. ⌜ r ≡ layerAdded records surface owner views ⌝ }
 {
     let view = views.record(owner);
-    let layers = view.surfaces;
-    views.with_record(owner, view.with_surfaces(layers.insert(records, surface)))
+    views.with_record(
+        owner,
+        view.with_surfaces(view.surfaces.insert(records, surface)),
+    )
 }
 
 fn attach(
@@ -79,14 +74,10 @@ fn attach(
     ensures { λ r. ⌜ r ≡ attached made descriptor registry ⌝ }
 {
     let handle = made.handle;
-    let owner = descriptor.view;
-    let old = registry.surfaces;
-    let surfaces = add_surface(old, made, descriptor);
+    let surfaces = add_surface(registry.surfaces, made, descriptor);
     let records = surfaces.records;
-    let all = registry.views;
-    let views = add_layer(all, records, handle, owner);
-    let before = registry.shortcuts;
-    let shortcuts = before.without(handle.index);
+    let views = add_layer(registry.views, records, handle, descriptor.view);
+    let shortcuts = registry.shortcuts.without(handle.index);
     registry
         .with_surfaces(surfaces)
         .with_views(views)
@@ -96,9 +87,7 @@ fn attach(
 pub fn attach_surface(registry: CompositionRegistry, descriptor: SurfaceDescriptor) -> Created
     ensures { λ r. ⌜ r ≡ attachSurface registry descriptor ⌝ }
 {
-    let surfaces = registry.surfaces;
-    let slots = surfaces.arena;
-    let made = handles::arena::allocate(slots, registry.first_generation);
+    let made = handles::arena::allocate(registry.surfaces.arena, registry.first_generation);
     let handle = made.handle;
     let changed = attach(registry, made, descriptor);
     let refusal = attach_refusal(registry, descriptor);
@@ -113,10 +102,9 @@ fn geometry_refusal(
 ) -> Outcome
     ensures { λ r. ⌜ r ≡ geometryRefusal registry surface geometry expected ⌝ }
 {
-    let surfaces = registry.surfaces;
-    let live = surfaces.refusal(surface);
+    let live = registry.surfaces.refusal(surface);
     let valid = geometry::surface::validate_geometry(geometry);
-    let invalid = composition_state::error::refuse_if(!valid, CompositionError::InvalidGeometry);
+    let invalid = records::error::refuse_if(!valid, CompositionError::InvalidGeometry);
     let conflict = composition_state::registry::expect_revision(registry.revision, expected);
     registry.damage().then(conflict.then(invalid.then(live)))
 }
@@ -129,9 +117,10 @@ pub fn update_surface_geometry(
 ) -> Changed
     ensures { λ r. ⌜ r ≡ updateSurfaceGeometry registry surface geometry «expected_revision» ⌝ }
 {
-    let surfaces = registry.surfaces;
-    let record = surfaces.record(surface);
-    let changed = surfaces.with_record(surface, record.with_geometry(geometry));
+    let record = registry.surfaces.record(surface);
+    let changed = registry
+        .surfaces
+        .with_record(surface, record.with_geometry(geometry));
     let refusal = geometry_refusal(registry, surface, geometry, expected_revision);
     registry.settle(refusal, registry.with_surfaces(changed))
 }
@@ -143,8 +132,7 @@ fn policy_refusal(
 ) -> Outcome
     ensures { λ r. ⌜ r ≡ policyRefusal registry surface expected ⌝ }
 {
-    let surfaces = registry.surfaces;
-    let live = surfaces.refusal(surface);
+    let live = registry.surfaces.refusal(surface);
     let conflict = composition_state::registry::expect_revision(registry.revision, expected);
     registry.damage().then(conflict.then(live))
 }
@@ -157,9 +145,10 @@ pub fn update_surface_input_policy(
 ) -> Changed
     ensures { λ r. ⌜ r ≡ updateSurfaceInputPolicy registry surface input «expected_revision» ⌝ }
 {
-    let surfaces = registry.surfaces;
-    let record = surfaces.record(surface);
-    let changed = surfaces.with_record(surface, record.with_input(input));
+    let record = registry.surfaces.record(surface);
+    let changed = registry
+        .surfaces
+        .with_record(surface, record.with_input(input));
     let refusal = policy_refusal(registry, surface, expected_revision);
     registry.settle(refusal, registry.with_surfaces(changed))
 }

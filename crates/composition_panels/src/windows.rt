@@ -1,37 +1,31 @@
 // Windows: create and close.
 ghost use mathlib.Core.Path.{_≡_};
-ghost use Prim.Native.Nat.{_≤_, _<_};
-ghost use mathlib.Core.Bool.{not};
-ghost use Rattle.lists.specs.Below.{allBelow};
+ghost use Prim.Native.Nat.{_<_};
 ghost use Rattle.composition_panels.specs.Windows.{createWindowRefusal, createWindow, standsIn, isWindowInUse, closeWindowRefusal, closeWindow};
 use crate::answer::Created;
-use composition_state::error::CompositionError;
-use composition_state::error::Outcome;
 use composition_state::registry::Changed;
 use composition_state::registry::CompositionRegistry;
-use composition_state::view::ViewTable;
-use handles::handle::GenerationalHandle;
+use handles::GenerationalHandle;
+use records::error::CompositionError;
+use records::error::Outcome;
+use records::view::ViewTable;
 
 fn create_window_refusal(registry: CompositionRegistry) -> Outcome
     ensures { λ r. ⌜ r ≡ createWindowRefusal registry ⌝ }
 {
-    let windows = registry.windows;
-    let limits = registry.limits;
-    let full = (windows.live as u64) == limits.max_windows;
-    registry.damage().then(composition_state::error::refuse_if(full, CompositionError::Capacity))
+    let full = (registry.windows.live as u64) == registry.limits.max_windows;
+    registry.damage().then(records::error::refuse_if(full, CompositionError::Capacity))
 }
 
 pub fn create_window(registry: CompositionRegistry) -> Created
     ensures { λ r. ⌜ r ≡ createWindow registry ⌝ }
 {
-    let windows = registry.windows;
-    let made = handles::arena::allocate(windows, registry.first_generation);
+    let made = handles::arena::allocate(registry.windows, registry.first_generation);
     let handle = made.handle;
-    let arena = made.arena;
     let refusal = create_window_refusal(registry);
     crate::answer::created_with(
         handle,
-        registry.settle(refusal, registry.with_windows(arena)),
+        registry.settle(refusal, registry.with_windows(made.arena)),
     )
 }
 
@@ -40,16 +34,14 @@ fn stands_in(views: ViewTable, window: GenerationalHandle, i: usize) -> bool
     requires { ⌜ i < 16 ⌝ }
     ensures { λ r. ⌜ r ≡ standsIn views window i ⌝ }
 {
-    let arena = views.arena;
-    let slots = arena.slots;
+    let slots = views.arena.slots;
     let slot = handles::arena::slot_at(slots, i);
     let view = GenerationalHandle {
         index: i as u32,
         generation: slot.generation,
     };
     let record = views.record(view);
-    let own = record.window;
-    lists::both(slot.filled, handles::handle::same_handle(own, window))
+    lists::both(slot.filled, handles::same_handle(record.window, window))
 }
 
 fn is_window_in_use(views: ViewTable, window: GenerationalHandle) -> bool
@@ -69,25 +61,21 @@ fn is_window_in_use(views: ViewTable, window: GenerationalHandle) -> bool
 fn close_window_refusal(registry: CompositionRegistry, window: GenerationalHandle) -> Outcome
     ensures { λ r. ⌜ r ≡ closeWindowRefusal registry window ⌝ }
 {
-    let windows = registry.windows;
-    let views = registry.views;
-    let freed = handles::arena::release(windows, window);
+    let freed = handles::arena::release(registry.windows, window);
     let outcome = freed.outcome;
     let exhausted = crate::answer::refuse_exhausted(outcome);
-    let in_use = composition_state::error::refuse_if(
-        is_window_in_use(views, window),
+    let in_use = records::error::refuse_if(
+        is_window_in_use(registry.views, window),
         CompositionError::WindowInUse,
     );
-    let live = composition_state::registry::window_refusal(windows, window);
+    let live = composition_state::registry::window_refusal(registry.windows, window);
     registry.damage().then(live.then(in_use.then(exhausted)))
 }
 
 pub fn close_window(registry: CompositionRegistry, window: GenerationalHandle) -> Changed
     ensures { λ r. ⌜ r ≡ closeWindow registry window ⌝ }
 {
-    let windows = registry.windows;
-    let freed = handles::arena::release(windows, window);
-    let arena = freed.arena;
+    let freed = handles::arena::release(registry.windows, window);
     let refusal = close_window_refusal(registry, window);
-    registry.settle(refusal, registry.with_windows(arena))
+    registry.settle(refusal, registry.with_windows(freed.arena))
 }

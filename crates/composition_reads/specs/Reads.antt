@@ -2,15 +2,15 @@
 use mathlib.Core.Path.{refl}
 use mathlib.Core.List.{map}
 use Rattle.lists.specs.Tables.{Shape, entriesOf, packed}
-use Rattle.handles.specs.declared.handle.GenerationalHandle.{GenerationalHandle}
-use Rattle.composition_state.specs.declared.error.Outcome.{Outcome}
+use Rattle.handles.specs.declared.GenerationalHandle.{GenerationalHandle}
+use Rattle.records.specs.declared.error.Outcome.{Outcome}
 use Rattle.composition_state.specs.declared.registry.CompositionRegistry.{CompositionRegistry}
-use Rattle.composition_state.specs.Errors.{thenRefusal}
+use Rattle.records.specs.Errors.{thenRefusal}
 use Rattle.composition_state.specs.Damage.{damageRefusal}
-use Rattle.composition_state.specs.Surfaces.{noSurface, surfaceRefusal, descriptorOf}
-use Rattle.composition_state.specs.Layers.{layers}
-use Rattle.composition_state.specs.declared.surface.SurfaceDescriptor.{SurfaceDescriptor}
-use Rattle.composition_state.specs.Views.{viewAt, viewRefusal, inputState}
+use Rattle.records.specs.Surfaces.{noSurface, surfaceRefusal, descriptorOf}
+use Rattle.records.specs.Layers.{layers}
+use Rattle.records.specs.declared.surface.SurfaceDescriptor.{SurfaceDescriptor}
+use Rattle.records.specs.Views.{viewAt, viewRefusal, inputState}
 use Rattle.composition_reads.specs.declared.WindowRead.{WindowRead}
 use Rattle.composition_reads.specs.declared.MetricsRead.{MetricsRead}
 use Rattle.composition_reads.specs.declared.InputStateRead.{InputStateRead}

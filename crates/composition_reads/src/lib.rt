@@ -3,19 +3,19 @@ ghost use mathlib.Core.Path.{_≡_};
 ghost use mathlib.Core.List.{[], map};
 ghost use Prim.Native.Nat.{_<_};
 ghost use Rattle.lists.specs.Tables.{entriesOf, packed, pushed};
-ghost use Rattle.composition_state.specs.Layers.{layers as stateLayers};
-ghost use Rattle.composition_state.specs.Surfaces.{descriptorOf};
+ghost use Rattle.records.specs.Layers.{layers as stateLayers};
+ghost use Rattle.records.specs.Surfaces.{descriptorOf};
 ghost use Rattle.composition_reads.specs.Reads.{viewReadRefusal, surfaceReadRefusal, viewWindow, viewMetrics, viewInputState, viewPointerCaptures, descriptors, viewLayers, surfaceDescriptor};
-use composition_state::error::Outcome;
-use composition_state::layers::Layers;
 use composition_state::registry::CompositionRegistry;
-use composition_state::surface::SurfaceDescriptor;
-use composition_state::surface::SurfaceTable;
-use composition_state::trace::Traces;
-use composition_state::view::ViewInputState;
 use geometry::metrics::ViewMetrics;
-use handles::handle::GenerationalHandle;
+use handles::GenerationalHandle;
 use maps::captures::PointerCaptures;
+use records::error::Outcome;
+use records::layers::Layers;
+use records::surface::SurfaceDescriptor;
+use records::surface::SurfaceTable;
+use records::trace::Traces;
+use records::view::ViewInputState;
 
 // What stands beside the outcome is the read value where it is accepted; where it is refused it means nothing.
 pub struct WindowRead {
@@ -59,23 +59,20 @@ pub struct DescriptorRead {
 fn view_read_refusal(registry: CompositionRegistry, view: GenerationalHandle) -> Outcome
     ensures { λ r. ⌜ r ≡ viewReadRefusal registry view ⌝ }
 {
-    let views = registry.views;
-    registry.damage().then(views.refusal(view))
+    registry.damage().then(registry.views.refusal(view))
 }
 
 fn surface_read_refusal(registry: CompositionRegistry, surface: GenerationalHandle) -> Outcome
     ensures { λ r. ⌜ r ≡ surfaceReadRefusal registry surface ⌝ }
 {
-    let surfaces = registry.surfaces;
-    registry.damage().then(surfaces.refusal(surface))
+    registry.damage().then(registry.surfaces.refusal(surface))
 }
 
 pub fn view_window(registry: CompositionRegistry, view: GenerationalHandle) -> WindowRead
     ensures { λ r. ⌜ r ≡ viewWindow registry view ⌝ }
 {
     let outcome = view_read_refusal(registry, view);
-    let views = registry.views;
-    let record = views.record(view);
+    let record = registry.views.record(view);
     let window = record.window;
     WindowRead { outcome, window }
 }
@@ -84,8 +81,7 @@ pub fn view_metrics(registry: CompositionRegistry, view: GenerationalHandle) -> 
     ensures { λ r. ⌜ r ≡ viewMetrics registry view ⌝ }
 {
     let outcome = view_read_refusal(registry, view);
-    let views = registry.views;
-    let record = views.record(view);
+    let record = registry.views.record(view);
     let metrics = record.metrics;
     MetricsRead { outcome, metrics }
 }
@@ -94,8 +90,7 @@ pub fn view_input_state(registry: CompositionRegistry, view: GenerationalHandle)
     ensures { λ r. ⌜ r ≡ viewInputState registry view ⌝ }
 {
     let outcome = view_read_refusal(registry, view);
-    let views = registry.views;
-    let state = views.record(view).input_state();
+    let state = registry.views.record(view).input_state();
     InputStateRead { outcome, state }
 }
 
@@ -106,8 +101,7 @@ pub fn view_pointer_captures(
     ensures { λ r. ⌜ r ≡ viewPointerCaptures registry view ⌝ }
 {
     let outcome = view_read_refusal(registry, view);
-    let views = registry.views;
-    let record = views.record(view);
+    let record = registry.views.record(view);
     let captures = record.pointer_captures;
     CapturesRead { outcome, captures }
 }
@@ -116,7 +110,7 @@ impl Descriptors {
     fn new() -> Self
         ensures { λ r. ⌜ r ≡ packed descriptors [] ⌝ }
     {
-        let blank = composition_state::surface::blank();
+        let blank = records::surface::blank();
         let none = blank.descriptor;
         Self {
             items: [none; 16],
@@ -155,11 +149,9 @@ pub fn view_layers(registry: CompositionRegistry, view: GenerationalHandle) -> L
     ensures { λ r. ⌜ r ≡ viewLayers registry view ⌝ }
 {
     let outcome = view_read_refusal(registry, view);
-    let views = registry.views;
-    let record = views.record(view);
+    let record = registry.views.record(view);
     let layers = record.surfaces;
-    let surfaces = registry.surfaces;
-    let descriptors = describe(surfaces, layers);
+    let descriptors = describe(registry.surfaces, layers);
     LayersRead {
         outcome,
         layers,
@@ -174,8 +166,7 @@ pub fn surface_descriptor(
     ensures { λ r. ⌜ r ≡ surfaceDescriptor registry surface ⌝ }
 {
     let outcome = surface_read_refusal(registry, surface);
-    let surfaces = registry.surfaces;
-    let descriptor = surfaces.descriptor(surface);
+    let descriptor = registry.surfaces.descriptor(surface);
     DescriptorRead {
         outcome,
         descriptor,
@@ -211,22 +202,17 @@ pub fn traces(registry: CompositionRegistry) -> Traces
 pub fn live_window_count(registry: CompositionRegistry) -> usize
     ensures { λ r. ⌜ r ≡ registry .windows .live ⌝ }
 {
-    let arena = registry.windows;
-    arena.live
+    registry.windows.live
 }
 
 pub fn live_view_count(registry: CompositionRegistry) -> usize
     ensures { λ r. ⌜ r ≡ registry .views .arena .live ⌝ }
 {
-    let views = registry.views;
-    let arena = views.arena;
-    arena.live
+    registry.views.arena.live
 }
 
 pub fn live_surface_count(registry: CompositionRegistry) -> usize
     ensures { λ r. ⌜ r ≡ registry .surfaces .arena .live ⌝ }
 {
-    let surfaces = registry.surfaces;
-    let arena = surfaces.arena;
-    arena.live
+    registry.surfaces.arena.live
 }

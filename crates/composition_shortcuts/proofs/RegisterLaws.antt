@@ -15,10 +15,10 @@ use Rattle.lists.specs.Lists.{keep}
 use Rattle.lists.specs.Tables.{entriesOf, packed, pushed}
 use Rattle.lists.proofs.ListLaws.{length-keep, map-snoc}
 use Rattle.lists.proofs.TableLaws as table
-use Rattle.composition_state.specs.declared.shortcut.Shortcuts.{Shortcuts}
-use Rattle.composition_state.specs.declared.shortcut.SlotShortcut.{SlotShortcut}
-use Rattle.composition_state.specs.declared.shortcut.SurfaceShortcutRegistration.{SurfaceShortcutRegistration}
-use Rattle.composition_state.specs.Shortcuts.{shortcuts, isOfOtherSlot, shortcutsWithout}
+use Rattle.records.specs.declared.shortcut.Shortcuts.{Shortcuts}
+use Rattle.records.specs.declared.shortcut.SlotShortcut.{SlotShortcut}
+use Rattle.records.specs.declared.shortcut.SurfaceShortcutRegistration.{SurfaceShortcutRegistration}
+use Rattle.records.specs.Shortcuts.{shortcuts, isOfOtherSlot, shortcutsWithout}
 use Rattle.composition_shortcuts.specs.declared.register.Registrations.{Registrations}
 use Rattle.composition_shortcuts.specs.Register.{registrations, withSlot, replacedEntries, fits, replaced}
 use Rattle.composition_shortcuts.proofs.register.Registrations as T

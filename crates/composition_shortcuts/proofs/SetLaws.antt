@@ -13,19 +13,19 @@ use Rattle.lists.proofs.ListLaws.{by-test, clash, and-left, and-right, length-k
 use Rattle.lists.proofs.TableLaws.{entries-packed, len-packed}
 use Rattle.handles.specs.declared.arena.SlotStatus.{SlotStatus}
 use Rattle.handles.specs.declared.arena.SlotStatus.the-variants.{Live, Invalid, Stale}
-use Rattle.handles.specs.declared.handle.GenerationalHandle.{GenerationalHandle}
-use Rattle.composition_state.specs.declared.error.CompositionError.{CompositionError}
-use Rattle.composition_state.specs.declared.error.CompositionError.the-variants.{InvalidSurface, StaleSurface, Capacity, NotInteractive, RevisionConflict, PortLimit, Damaged}
-use Rattle.composition_state.specs.declared.error.Outcome.{Outcome}
-use Rattle.composition_state.specs.declared.error.Outcome.the-variants.{Accepted, Refused}
+use Rattle.handles.specs.declared.GenerationalHandle.{GenerationalHandle}
+use Rattle.records.specs.declared.error.CompositionError.{CompositionError}
+use Rattle.records.specs.declared.error.CompositionError.the-variants.{InvalidSurface, StaleSurface, Capacity, NotInteractive, RevisionConflict, PortLimit, Damaged}
+use Rattle.records.specs.declared.error.Outcome.{Outcome}
+use Rattle.records.specs.declared.error.Outcome.the-variants.{Accepted, Refused}
 use Rattle.composition_state.specs.declared.registry.CompositionRegistry.{CompositionRegistry}
-use Rattle.composition_state.specs.declared.shortcut.SurfaceShortcutRegistration.{SurfaceShortcutRegistration}
-use Rattle.composition_state.specs.declared.surface.SurfaceInputPolicy.the-variants.{Observe}
+use Rattle.records.specs.declared.shortcut.SurfaceShortcutRegistration.{SurfaceShortcutRegistration}
+use Rattle.records.specs.declared.surface.SurfaceInputPolicy.the-variants.{Observe}
 use Rattle.composition_state.specs.Damage.{damageRefusal, isSound, limitsSound, arenasSound}
-use Rattle.composition_state.specs.Errors.{errorNumber, numberOf, thenRefusal, refusalIf, statusRefusal}
+use Rattle.records.specs.Errors.{errorNumber, numberOf, thenRefusal, refusalIf, statusRefusal}
 use Rattle.composition_state.specs.Registry.{withShortcuts, conflictRefusal, advanced, settled}
-use Rattle.composition_state.specs.Shortcuts.{shortcuts, isOfOtherSlot}
-use Rattle.composition_state.specs.Surfaces.{surfaceStatus, descriptorOf, surfaceRefusal}
+use Rattle.records.specs.Shortcuts.{shortcuts, isOfOtherSlot}
+use Rattle.records.specs.Surfaces.{surfaceStatus, descriptorOf, surfaceRefusal}
 use Rattle.composition_state.proofs.SettleLaws.{accepted-is}
 use Rattle.composition_shortcuts.specs.declared.register.Registrations.{Registrations}
 use Rattle.composition_shortcuts.specs.Register.{registrations, isFit, replacedEntries, fits, replaced, registerRefusal, registerSurfaceSystemShortcutSet}

@@ -9,14 +9,14 @@ use native.Mathlib.Omega.{arith}
 use Rattle.lists.specs.Lists.{keep}
 use Rattle.lists.specs.Tables.{entriesOf}
 use Rattle.lists.proofs.ListLaws.{by-test, clash}
-use Rattle.handles.specs.declared.handle.GenerationalHandle.{GenerationalHandle}
-use Rattle.handles.specs.declared.handle.OptionalHandle.{OptionalHandle}
-use Rattle.handles.specs.declared.handle.OptionalHandle.the-variants as O
-use Rattle.composition_state.specs.declared.error.Outcome.{Outcome}
-use Rattle.composition_state.specs.declared.error.Outcome.the-variants.{Accepted, Refused}
+use Rattle.handles.specs.declared.GenerationalHandle.{GenerationalHandle}
+use Rattle.handles.specs.declared.OptionalHandle.{OptionalHandle}
+use Rattle.handles.specs.declared.OptionalHandle.the-variants as O
+use Rattle.records.specs.declared.error.Outcome.{Outcome}
+use Rattle.records.specs.declared.error.Outcome.the-variants.{Accepted, Refused}
 use Rattle.composition_state.specs.declared.registry.CompositionRegistry.{CompositionRegistry}
-use Rattle.composition_state.specs.declared.shortcut.SlotShortcut.{SlotShortcut}
-use Rattle.composition_state.specs.Shortcuts.{shortcuts}
+use Rattle.records.specs.declared.shortcut.SlotShortcut.{SlotShortcut}
+use Rattle.records.specs.Shortcuts.{shortcuts}
 use Rattle.composition_shortcuts.specs.declared.candidate.Candidate.{Candidate}
 use Rattle.composition_shortcuts.specs.declared.candidate.OptionalCandidate.the-variants.{None, Some}
 use Rattle.composition_shortcuts.specs.Greatest.{greatest}

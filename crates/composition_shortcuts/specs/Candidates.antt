@@ -8,12 +8,12 @@ use lib.IntN.{ℤ}
 use lib.Signed.{ltZ}
 use Rattle.lists.specs.Orders.{lexBoth}
 use Rattle.handles.specs.Handles.{handleLt, sameHandle}
-use Rattle.handles.specs.declared.handle.GenerationalHandle.{GenerationalHandle}
-use Rattle.composition_state.specs.declared.shortcut.ShortcutScope.{ShortcutScope}
-use Rattle.composition_state.specs.declared.shortcut.ShortcutScope.the-variants.{View, Window, Session}
-use Rattle.composition_state.specs.declared.shortcut.SlotShortcut.{SlotShortcut}
-use Rattle.composition_state.specs.declared.surface.SurfaceDescriptor.{SurfaceDescriptor}
-use Rattle.composition_state.specs.declared.surface.SurfaceTable.{SurfaceTable}
+use Rattle.handles.specs.declared.GenerationalHandle.{GenerationalHandle}
+use Rattle.records.specs.declared.shortcut.ShortcutScope.{ShortcutScope}
+use Rattle.records.specs.declared.shortcut.ShortcutScope.the-variants.{View, Window, Session}
+use Rattle.records.specs.declared.shortcut.SlotShortcut.{SlotShortcut}
+use Rattle.records.specs.declared.surface.SurfaceDescriptor.{SurfaceDescriptor}
+use Rattle.records.specs.declared.surface.SurfaceTable.{SurfaceTable}
 use Rattle.composition_shortcuts.specs.declared.candidate.Candidate.{Candidate}
 use Rattle.composition_shortcuts.specs.declared.candidate.OptionalCandidate.{OptionalCandidate}
 use Rattle.composition_shortcuts.specs.declared.candidate.OptionalCandidate.the-variants as C

@@ -7,17 +7,17 @@ use lib.Dec.{eqb}
 use Rattle.lists.specs.Lists.{first}
 use Rattle.handles.specs.Slots.{lookupOf, liveHandles}
 use Rattle.handles.specs.declared.arena.Arena.{Arena}
-use Rattle.handles.specs.declared.handle.GenerationalHandle.{GenerationalHandle}
+use Rattle.handles.specs.declared.GenerationalHandle.{GenerationalHandle}
 use Rattle.maps.specs.MapTables.{isSome}
-use Rattle.composition_state.specs.declared.error.CompositionError.the-variants.{InvalidView, StaleView}
-use Rattle.composition_state.specs.declared.error.Outcome.{Outcome}
-use Rattle.composition_state.specs.declared.error.Outcome.the-variants.{Accepted}
-use Rattle.composition_state.specs.declared.shortcut.ShortcutScope.{ShortcutScope}
-use Rattle.composition_state.specs.declared.shortcut.ShortcutScope.the-variants.{View, Window, Session}
-use Rattle.composition_state.specs.declared.shortcut.SlotShortcut.{SlotShortcut}
-use Rattle.composition_state.specs.declared.surface.SurfaceTable.{SurfaceTable}
-use Rattle.composition_state.specs.Errors.{statusRefusal, isAccepted}
-use Rattle.composition_state.specs.Surfaces.{descriptorOf}
+use Rattle.records.specs.declared.error.CompositionError.the-variants.{InvalidView, StaleView}
+use Rattle.records.specs.declared.error.Outcome.{Outcome}
+use Rattle.records.specs.declared.error.Outcome.the-variants.{Accepted}
+use Rattle.records.specs.declared.shortcut.ShortcutScope.{ShortcutScope}
+use Rattle.records.specs.declared.shortcut.ShortcutScope.the-variants.{View, Window, Session}
+use Rattle.records.specs.declared.shortcut.SlotShortcut.{SlotShortcut}
+use Rattle.records.specs.declared.surface.SurfaceTable.{SurfaceTable}
+use Rattle.records.specs.Errors.{statusRefusal, isAccepted}
+use Rattle.records.specs.Surfaces.{descriptorOf}
 use Rattle.composition_shortcuts.specs.Scope.{sharesBit}
 
 abbrev pub isWindow : ShortcutScope → Bool

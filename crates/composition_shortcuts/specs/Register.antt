@@ -8,21 +8,21 @@ use lib.IntN.{pos}
 use lib.ListN.{length}
 use Rattle.lists.specs.Lists.{keep, all}
 use Rattle.lists.specs.Tables.{Shape, entriesOf, packed}
-use Rattle.handles.specs.declared.handle.GenerationalHandle.{GenerationalHandle}
-use Rattle.composition_state.specs.declared.error.CompositionError.the-variants.{Capacity, NotInteractive, PortLimit}
-use Rattle.composition_state.specs.declared.error.Outcome.{Outcome}
+use Rattle.handles.specs.declared.GenerationalHandle.{GenerationalHandle}
+use Rattle.records.specs.declared.error.CompositionError.the-variants.{Capacity, NotInteractive, PortLimit}
+use Rattle.records.specs.declared.error.Outcome.{Outcome}
 use Rattle.composition_state.specs.declared.registry.CompositionRegistry.{CompositionRegistry}
 use Rattle.composition_state.specs.declared.registry.Changed.{Changed}
-use Rattle.composition_state.specs.declared.shortcut.ShortcutScope.the-variants.{View}
-use Rattle.composition_state.specs.declared.shortcut.SlotShortcut.{SlotShortcut}
-use Rattle.composition_state.specs.declared.shortcut.Shortcuts.{Shortcuts}
-use Rattle.composition_state.specs.declared.shortcut.SurfaceShortcutRegistration.{SurfaceShortcutRegistration}
-use Rattle.composition_state.specs.declared.surface.SurfaceInputPolicy.{SurfaceInputPolicy}
+use Rattle.records.specs.declared.shortcut.ShortcutScope.the-variants.{View}
+use Rattle.records.specs.declared.shortcut.SlotShortcut.{SlotShortcut}
+use Rattle.records.specs.declared.shortcut.Shortcuts.{Shortcuts}
+use Rattle.records.specs.declared.shortcut.SurfaceShortcutRegistration.{SurfaceShortcutRegistration}
+use Rattle.records.specs.declared.surface.SurfaceInputPolicy.{SurfaceInputPolicy}
 use Rattle.composition_state.specs.Damage.{damageRefusal}
-use Rattle.composition_state.specs.Errors.{thenRefusal, refusalIf}
+use Rattle.records.specs.Errors.{thenRefusal, refusalIf}
 use Rattle.composition_state.specs.Registry.{withShortcuts, conflictRefusal, settled}
-use Rattle.composition_state.specs.Shortcuts.{shortcuts, isOfOtherSlot}
-use Rattle.composition_state.specs.Surfaces.{isInteractive, descriptorOf, surfaceRefusal}
+use Rattle.records.specs.Shortcuts.{shortcuts, isOfOtherSlot}
+use Rattle.records.specs.Surfaces.{isInteractive, descriptorOf, surfaceRefusal}
 use Rattle.composition_shortcuts.specs.declared.register.Registrations.{Registrations}
 use Rattle.composition_shortcuts.specs.declared.register.OptionalRegistration.{OptionalRegistration}
 use Rattle.composition_shortcuts.specs.declared.register.OptionalRegistration.the-variants.{None, Some}

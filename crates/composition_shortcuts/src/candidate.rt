@@ -6,13 +6,13 @@ ghost use lib.Signed.{ltZ};
 ghost use Rattle.composition_shortcuts.specs.declared.candidate.Candidate.{Candidate};
 ghost use Rattle.composition_shortcuts.specs.Candidates.{scopeRank, sameView, candidateWith, candidateOf, isLess, bestOf};
 use crate::scope::owner_of;
-use composition_state::shortcut::ShortcutScope;
-use composition_state::shortcut::SlotShortcut;
-use composition_state::surface::SurfaceDescriptor;
-use composition_state::surface::SurfaceTable;
-use handles::handle::GenerationalHandle;
-use handles::handle::handle_lt;
-use handles::handle::same_handle;
+use handles::GenerationalHandle;
+use handles::handle_lt;
+use handles::same_handle;
+use records::shortcut::ShortcutScope;
+use records::shortcut::SlotShortcut;
+use records::surface::SurfaceDescriptor;
+use records::surface::SurfaceTable;
 
 // A registration that counts, as it is compared.
 pub struct Candidate {
@@ -56,9 +56,8 @@ fn candidate_with(
 ) -> Candidate
     ensures { λ r. ⌜ r ≡ candidateWith entry descriptor «scope_rank» «same_view» surface ⌝ }
 {
-    let registration = entry.registration;
     Candidate {
-        priority: registration.priority,
+        priority: entry.registration.priority,
         scope_rank,
         same_view,
         z_order: descriptor.z_order,
@@ -73,17 +72,15 @@ pub fn candidate_of(
 ) -> Candidate
     ensures { λ r. ⌜ r ≡ candidateOf surfaces view entry ⌝ }
 {
-    let arena = surfaces.arena;
     let registration = entry.registration;
     let scope = registration.scope;
-    let surface = owner_of(arena, entry);
+    let surface = owner_of(surfaces.arena, entry);
     let descriptor = surfaces.descriptor(surface);
-    let own = descriptor.view;
     candidate_with(
         entry,
         descriptor,
         rank_of(scope),
-        same_view_of(own, view),
+        same_view_of(descriptor.view, view),
         surface,
     )
 }
@@ -116,9 +113,7 @@ fn first_by(less: bool, greater: bool, next: bool) -> bool
 fn is_less(a: Candidate, b: Candidate) -> bool
     ensures { λ r. ⌜ r ≡ isLess a b ⌝ }
 {
-    let low = a.surface;
-    let high = b.surface;
-    let by_handle = handle_lt(low, high);
+    let by_handle = handle_lt(a.surface, b.surface);
     let by_z = first_by(is_lower(a, b), is_lower(b, a), by_handle);
     let by_view = first_by(a.same_view < b.same_view, b.same_view < a.same_view, by_z);
     let by_scope = first_by(

@@ -1,18 +1,18 @@
 // The refusal of a system shortcut: 8 or 9 of a live panel's own view.
 ghost use mathlib.Core.Path.{_≡_};
 ghost use Rattle.lists.specs.Tables.{entriesOf};
-ghost use Rattle.composition_state.specs.Shortcuts.{shortcuts as stored};
+ghost use Rattle.records.specs.Shortcuts.{shortcuts as stored};
 ghost use Rattle.composition_shortcuts.specs.OwnView.{isWindow, isAsking, asksWindow, ownRefusal, isRefused, ownViewRefusal};
 use crate::scope::shares_bit;
-use composition_state::error::CompositionError;
-use composition_state::error::Outcome;
-use composition_state::error::refuse_status;
-use composition_state::shortcut::ShortcutScope;
-use composition_state::shortcut::Shortcuts;
-use composition_state::shortcut::SlotShortcut;
-use composition_state::surface::SurfaceTable;
+use handles::GenerationalHandle;
 use handles::arena::Arena;
-use handles::handle::GenerationalHandle;
+use records::error::CompositionError;
+use records::error::Outcome;
+use records::error::refuse_status;
+use records::shortcut::ShortcutScope;
+use records::shortcut::Shortcuts;
+use records::shortcut::SlotShortcut;
+use records::surface::SurfaceTable;
 
 fn is_window(scope: ShortcutScope) -> bool
     ensures { λ r. ⌜ r ≡ isWindow scope ⌝ }
@@ -54,9 +54,8 @@ fn own_refusal(views: Arena, surfaces: SurfaceTable, panel: GenerationalHandle) 
     ensures { λ r. ⌜ r ≡ ownRefusal views surfaces panel ⌝ }
 {
     let descriptor = surfaces.descriptor(panel);
-    let own = descriptor.view;
     refuse_status(
-        handles::arena::lookup(views, own),
+        handles::arena::lookup(views, descriptor.view),
         CompositionError::InvalidView,
         CompositionError::StaleView,
     )

@@ -5,21 +5,21 @@ ghost use Prim.Native.Nat.{_+_, _≤_, _<_};
 ghost use lib.ListN.{length};
 ghost use Rattle.lists.specs.Lists.{all};
 ghost use Rattle.lists.specs.Tables.{entriesOf, packed, pushed};
-ghost use Rattle.composition_state.specs.Shortcuts.{shortcuts as stored};
+ghost use Rattle.records.specs.Shortcuts.{shortcuts as stored};
 ghost use Rattle.composition_shortcuts.specs.Register.{registrations as given, isFit, withSlot, fits, replaced, registerRefusal, registerSurfaceSystemShortcutSet, registrationList, ofMask};
-use composition_state::error::CompositionError;
-use composition_state::error::Outcome;
-use composition_state::error::refuse_if;
 use composition_state::registry::Changed;
 use composition_state::registry::CompositionRegistry;
 use composition_state::registry::expect_revision;
-use composition_state::shortcut::ShortcutScope;
-use composition_state::shortcut::Shortcuts;
-use composition_state::shortcut::SlotShortcut;
-use composition_state::shortcut::SurfaceShortcutRegistration;
-use composition_state::surface::SurfaceInputPolicy;
-use composition_state::surface::is_interactive;
-use handles::handle::GenerationalHandle;
+use handles::GenerationalHandle;
+use records::error::CompositionError;
+use records::error::Outcome;
+use records::error::refuse_if;
+use records::shortcut::ShortcutScope;
+use records::shortcut::Shortcuts;
+use records::shortcut::SlotShortcut;
+use records::shortcut::SurfaceShortcutRegistration;
+use records::surface::SurfaceInputPolicy;
+use records::surface::is_interactive;
 
 // The registrations handed in. A `len` over 64 stands for a list that is too long.
 pub struct Registrations {
@@ -144,16 +144,14 @@ fn register_refusal(
 ) -> Outcome
     ensures { λ r. ⌜ r ≡ registerRefusal registry surface registrations expected ⌝ }
 {
-    let surfaces = registry.surfaces;
-    let shortcuts = registry.shortcuts;
-    let descriptor = surfaces.descriptor(surface);
+    let descriptor = registry.surfaces.descriptor(surface);
     let input = descriptor.input;
-    let room = has_room(shortcuts, surface.index, registrations);
+    let room = has_room(registry.shortcuts, surface.index, registrations);
     let full = refuse_if(!room, CompositionError::PortLimit);
     let fit = are_fit(input, registrations);
     let unfit = refuse_if(!fit, CompositionError::NotInteractive);
     let long = refuse_if(registrations.len > 64, CompositionError::Capacity);
-    let live = surfaces.refusal(surface);
+    let live = registry.surfaces.refusal(surface);
     let conflict = expect_revision(registry.revision, expected);
     registry
         .damage()
@@ -168,8 +166,7 @@ pub fn register_surface_system_shortcut_set(
 ) -> Changed
     ensures { λ r. ⌜ r ≡ registerSurfaceSystemShortcutSet registry surface registrations «expected_revision» ⌝ }
 {
-    let shortcuts = registry.shortcuts;
-    let changed = replace(shortcuts, surface.index, registrations);
+    let changed = replace(registry.shortcuts, surface.index, registrations);
     let refusal = register_refusal(registry, surface, registrations, expected_revision);
     registry.settle(refusal, registry.with_shortcuts(changed))
 }

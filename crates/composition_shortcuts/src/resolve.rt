@@ -2,8 +2,8 @@
 ghost use mathlib.Core.Path.{_≡_};
 ghost use mathlib.Core.List.{List, [], _∷_, _++_};
 ghost use Rattle.lists.specs.Tables.{entriesOf};
-ghost use Rattle.composition_state.specs.declared.shortcut.SlotShortcut.{SlotShortcut};
-ghost use Rattle.composition_state.specs.Shortcuts.{shortcuts as stored};
+ghost use Rattle.records.specs.declared.shortcut.SlotShortcut.{SlotShortcut};
+ghost use Rattle.records.specs.Shortcuts.{shortcuts as stored};
 ghost use Rattle.composition_shortcuts.specs.Resolve.{bestAmong, winnerOf, resolvedWith, resolveSystemShortcut};
 use crate::candidate::OptionalCandidate;
 use crate::candidate::candidate_of;
@@ -11,14 +11,14 @@ use crate::candidate::greater_of;
 use crate::own_view::own_view_refusal;
 use crate::scope::is_counted;
 use crate::scope::shares_bit;
-use composition_state::error::Outcome;
 use composition_state::registry::CompositionRegistry;
-use composition_state::shortcut::Shortcuts;
-use composition_state::shortcut::SlotShortcut;
-use composition_state::surface::SurfaceTable;
-use composition_state::view::ViewTable;
-use handles::handle::GenerationalHandle;
-use handles::handle::OptionalHandle;
+use handles::GenerationalHandle;
+use handles::OptionalHandle;
+use records::error::Outcome;
+use records::shortcut::Shortcuts;
+use records::shortcut::SlotShortcut;
+use records::surface::SurfaceTable;
+use records::view::ViewTable;
 
 // The answer: the panel that the event goes to stands if it is accepted.
 pub struct Resolved {
@@ -102,11 +102,18 @@ pub fn resolve_system_shortcut(
 ) -> Resolved
     ensures { λ r. ⌜ r ≡ resolveSystemShortcut registry view «class_mask» ⌝ }
 {
-    let views = registry.views;
-    let surfaces = registry.surfaces;
-    let shortcuts = registry.shortcuts;
-    let arena = views.arena;
-    let outcome = own_view_refusal(arena, surfaces, shortcuts, class_mask);
-    let best = best_among(views, surfaces, shortcuts, view, class_mask);
+    let outcome = own_view_refusal(
+        registry.views.arena,
+        registry.surfaces,
+        registry.shortcuts,
+        class_mask,
+    );
+    let best = best_among(
+        registry.views,
+        registry.surfaces,
+        registry.shortcuts,
+        view,
+        class_mask,
+    );
     resolved_with(outcome, winner_of(best))
 }

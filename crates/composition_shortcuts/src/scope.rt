@@ -1,13 +1,13 @@
 // Which registrations of the table count for an event.
 ghost use mathlib.Core.Path.{_≡_};
 ghost use Rattle.composition_shortcuts.specs.Scope.{sharesBit, ownerOf, isOwned, inScope, counts};
-use composition_state::shortcut::ShortcutScope;
-use composition_state::shortcut::SlotShortcut;
-use composition_state::surface::SurfaceTable;
-use composition_state::view::ViewTable;
+use handles::GenerationalHandle;
 use handles::arena::Arena;
-use handles::handle::GenerationalHandle;
-use handles::handle::same_handle;
+use handles::same_handle;
+use records::shortcut::ShortcutScope;
+use records::shortcut::SlotShortcut;
+use records::surface::SurfaceTable;
+use records::view::ViewTable;
 
 pub fn shares_bit(a: u64, b: u64) -> bool
     ensures { λ r. ⌜ r ≡ sharesBit a b ⌝ }

@@ -11,22 +11,22 @@ use Rattle.geometry.specs.Metrics.{isValidMetrics}
 use Rattle.geometry.specs.Surface.{isValidGeometry}
 use Rattle.handles.specs.Handles.{sameHandle, holdsHandle}
 use Rattle.handles.specs.Slots.{released}
-use Rattle.handles.specs.declared.handle.GenerationalHandle.{GenerationalHandle}
-use Rattle.handles.specs.declared.handle.OptionalHandle.{OptionalHandle}
-use Rattle.handles.specs.declared.handle.OptionalHandle.the-variants as O
+use Rattle.handles.specs.declared.GenerationalHandle.{GenerationalHandle}
+use Rattle.handles.specs.declared.OptionalHandle.{OptionalHandle}
+use Rattle.handles.specs.declared.OptionalHandle.the-variants as O
 use Rattle.maps.specs.Captures.{captures, captureKey, surfaceOf}
 use Rattle.maps.specs.Keys.{pointerKey, pointerValid}
 use Rattle.maps.specs.MapTables.{accepts, found}
 use Rattle.maps.specs.declared.keys.CompositionPointerId.{CompositionPointerId}
-use Rattle.composition_state.specs.declared.error.CompositionError.the-variants.{Capacity, PerViewCapacity, WindowInUse, ViewInUse, InvalidGeometry, InvalidMetrics, WrongView, NotInteractive, TextUnsupported, RevisionExhausted, GenerationExhausted, PortLimit, Damaged}
-use Rattle.composition_state.specs.declared.error.Outcome.{Outcome}
-use Rattle.composition_state.specs.declared.error.Outcome.the-variants.{Accepted, Refused}
+use Rattle.records.specs.declared.error.CompositionError.the-variants.{Capacity, PerViewCapacity, WindowInUse, ViewInUse, InvalidGeometry, InvalidMetrics, WrongView, NotInteractive, TextUnsupported, RevisionExhausted, GenerationExhausted, PortLimit, Damaged}
+use Rattle.records.specs.declared.error.Outcome.{Outcome}
+use Rattle.records.specs.declared.error.Outcome.the-variants.{Accepted, Refused}
 use Rattle.composition_state.specs.declared.registry.Changed.{Changed}
 use Rattle.composition_state.specs.declared.registry.CompositionRegistry.{CompositionRegistry}
 use Rattle.composition_state.specs.Damage.{isSound}
-use Rattle.composition_state.specs.Errors.{numberOf}
-use Rattle.composition_state.specs.Surfaces.{descriptorOf}
-use Rattle.composition_state.specs.Views.{viewAt}
+use Rattle.records.specs.Errors.{numberOf}
+use Rattle.records.specs.Surfaces.{descriptorOf}
+use Rattle.records.specs.Views.{viewAt}
 use Rattle.composition_panels.specs.Windows.{createWindowRefusal, createWindow, isWindowInUse, closeWindowRefusal, closeWindow, createViewRefusal, createView, hasLayers, closeViewRefusal, closeView}
 use Rattle.composition_panels.specs.Metrics.{currentRevision, metricsRefusal, updateViewMetrics}
 use Rattle.composition_panels.specs.Panels.{layerCount, attachRefusal, attachSurface, geometryRefusal, updateSurfaceGeometry, policyRefusal, updateSurfaceInputPolicy}

@@ -10,22 +10,22 @@ use Rattle.handles.specs.Claims.{Proper, MayIssue, Issues}
 use Rattle.handles.specs.Slots.{lookupOf}
 use Rattle.handles.specs.declared.arena.Allocation.{Allocation}
 use Rattle.handles.specs.declared.arena.SlotStatus.the-variants.{Live}
-use Rattle.handles.specs.declared.handle.GenerationalHandle.{GenerationalHandle}
+use Rattle.handles.specs.declared.GenerationalHandle.{GenerationalHandle}
 use Rattle.handles.proofs.ClaimLaws as arena
 use Rattle.handles.proofs.LookupLaws.{live-facts}
 use Rattle.geometry.specs.Surface.{isValidGeometry}
-use Rattle.composition_state.specs.declared.error.CompositionError.the-variants.{InvalidView, StaleView, InvalidGeometry, PerViewCapacity, Capacity}
+use Rattle.records.specs.declared.error.CompositionError.the-variants.{InvalidView, StaleView, InvalidGeometry, PerViewCapacity, Capacity}
 use Rattle.composition_state.specs.declared.registry.CompositionRegistry.{CompositionRegistry}
-use Rattle.composition_state.specs.declared.surface.SurfaceDescriptor.{SurfaceDescriptor}
-use Rattle.composition_state.specs.declared.surface.SurfaceRecord.{SurfaceRecord}
-use Rattle.composition_state.specs.declared.surface.SurfaceTable.{SurfaceTable}
+use Rattle.records.specs.declared.surface.SurfaceDescriptor.{SurfaceDescriptor}
+use Rattle.records.specs.declared.surface.SurfaceRecord.{SurfaceRecord}
+use Rattle.records.specs.declared.surface.SurfaceTable.{SurfaceTable}
 use Rattle.composition_state.specs.Damage.{damageRefusal}
-use Rattle.composition_state.specs.Errors.{refusalIf}
-use Rattle.composition_state.specs.Layers.{isLayerOf, layersWith}
+use Rattle.records.specs.Errors.{refusalIf}
+use Rattle.records.specs.Layers.{isLayerOf, layersWith}
 use Rattle.composition_state.specs.Registry.{withViews, withSurfaces}
-use Rattle.composition_state.specs.Shortcuts.{shortcuts, isOfOtherSlot, shortcutsWithout}
-use Rattle.composition_state.specs.Surfaces.{noSurface}
-use Rattle.composition_state.specs.Views.{viewAt, viewRefusal, withLayers}
+use Rattle.records.specs.Shortcuts.{shortcuts, isOfOtherSlot, shortcutsWithout}
+use Rattle.records.specs.Surfaces.{noSurface}
+use Rattle.records.specs.Views.{viewAt, viewRefusal, withLayers}
 use Rattle.composition_state.proofs.SettleLaws.{then-last, if-accepted}
 use Rattle.composition_panels.specs.Panels.{layerCount, attachRefusal, newSurface, surfaceAdded, layerAdded, attached, attachSurface}
 use Rattle.composition_soundness.proofs.CaseLaws.{then-first, status-live}

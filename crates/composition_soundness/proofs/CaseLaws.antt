@@ -5,13 +5,13 @@ use Rattle.lists.proofs.ListLaws.{by-test, clash}
 use Rattle.handles.specs.Handles.{sameHandle}
 use Rattle.handles.specs.declared.arena.SlotStatus.{SlotStatus}
 use Rattle.handles.specs.declared.arena.SlotStatus.the-variants.{Live, Invalid, Stale}
-use Rattle.handles.specs.declared.handle.GenerationalHandle.{GenerationalHandle}
+use Rattle.handles.specs.declared.GenerationalHandle.{GenerationalHandle}
 use Rattle.handles.proofs.HandleLaws.{handles}
-use Rattle.composition_state.specs.declared.error.CompositionError.{CompositionError}
-use Rattle.composition_state.specs.declared.error.Outcome.{Outcome}
-use Rattle.composition_state.specs.declared.error.Outcome.the-variants.{Accepted, Refused}
-use Rattle.composition_state.specs.Errors.{isAccepted, thenRefusal, statusRefusal}
-use Rattle.composition_state.specs.Layers.{isLive}
+use Rattle.records.specs.declared.error.CompositionError.{CompositionError}
+use Rattle.records.specs.declared.error.Outcome.{Outcome}
+use Rattle.records.specs.declared.error.Outcome.the-variants.{Accepted, Refused}
+use Rattle.records.specs.Errors.{isAccepted, thenRefusal, statusRefusal}
+use Rattle.records.specs.Layers.{isLive}
 
 -- what holds of both answers holds of the one that a test picks
 pub either : {X : Type 0} (P : X → Type 0) (b : Bool) (x y : X) → P x → P y → P (cond b x y)

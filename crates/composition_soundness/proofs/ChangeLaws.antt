@@ -15,21 +15,21 @@ use Rattle.handles.specs.Handles.{handleLt}
 use Rattle.handles.specs.Slots.{lookupOf}
 use Rattle.handles.specs.declared.arena.Arena.{Arena}
 use Rattle.handles.specs.declared.arena.SlotStatus.the-variants.{Live}
-use Rattle.handles.specs.declared.handle.GenerationalHandle.{GenerationalHandle}
+use Rattle.handles.specs.declared.GenerationalHandle.{GenerationalHandle}
 use Rattle.maps.specs.Captures.{captures, captureKey}
 use Rattle.maps.specs.MapTables.{keysRise}
 use Rattle.maps.specs.declared.captures.PointerCaptures.{PointerCaptures}
-use Rattle.composition_state.specs.declared.layers.Layers.{Layers}
+use Rattle.records.specs.declared.layers.Layers.{Layers}
 use Rattle.composition_state.specs.declared.registry.CompositionRegistry.{CompositionRegistry}
-use Rattle.composition_state.specs.declared.shortcut.Shortcuts.{Shortcuts}
-use Rattle.composition_state.specs.declared.surface.SurfaceTable.{SurfaceTable}
-use Rattle.composition_state.specs.declared.trace.Traces.{Traces}
-use Rattle.composition_state.specs.declared.view.ViewRecord.{ViewRecord}
-use Rattle.composition_state.specs.declared.view.ViewTable.{ViewTable}
+use Rattle.records.specs.declared.shortcut.Shortcuts.{Shortcuts}
+use Rattle.records.specs.declared.surface.SurfaceTable.{SurfaceTable}
+use Rattle.records.specs.declared.trace.Traces.{Traces}
+use Rattle.records.specs.declared.view.ViewRecord.{ViewRecord}
+use Rattle.records.specs.declared.view.ViewTable.{ViewTable}
 use Rattle.composition_state.specs.Damage.{tracesSound, layersSound, viewSound}
-use Rattle.composition_state.specs.Layers.{layers, itself, zOf, layerLt, layersRise, isLive, isLayerOf}
+use Rattle.records.specs.Layers.{layers, itself, zOf, layerLt, layersRise, isLive, isLayerOf}
 use Rattle.composition_state.specs.Registry.{withWindows, withViews, withSurfaces, withShortcuts, withTraces}
-use Rattle.composition_state.specs.Views.{noView, viewAt, withView}
+use Rattle.records.specs.Views.{noView, viewAt, withView}
 use Rattle.composition_soundness.proofs.CaseLaws.{live-is}
 use Rattle.composition_soundness.proofs.ListLaws.{set-keeps, all-as, rising-as}
 use Rattle.composition_soundness.proofs.PartLaws.{Parts}

@@ -6,17 +6,17 @@ use Rattle.handles.specs.declared.arena.ReleaseOutcome.{ReleaseOutcome}
 use Rattle.handles.specs.declared.arena.ReleaseOutcome.the-variants as release
 use Rattle.handles.specs.declared.arena.SlotStatus.{SlotStatus}
 use Rattle.handles.specs.declared.arena.SlotStatus.the-variants.{Live, Invalid, Stale}
-use Rattle.handles.specs.declared.handle.GenerationalHandle.{GenerationalHandle}
-use Rattle.handles.specs.declared.handle.OptionalHandle.{OptionalHandle}
-use Rattle.composition_state.specs.declared.error.CompositionError.{CompositionError}
-use Rattle.composition_state.specs.declared.error.CompositionError.the-variants.{InvalidWindow, StaleWindow, InvalidView, StaleView, InvalidSurface, StaleSurface, NotInteractive, RevisionConflict}
-use Rattle.composition_state.specs.declared.error.Outcome.{Outcome}
-use Rattle.composition_state.specs.declared.error.Outcome.the-variants.{Accepted, Refused}
+use Rattle.handles.specs.declared.GenerationalHandle.{GenerationalHandle}
+use Rattle.handles.specs.declared.OptionalHandle.{OptionalHandle}
+use Rattle.records.specs.declared.error.CompositionError.{CompositionError}
+use Rattle.records.specs.declared.error.CompositionError.the-variants.{InvalidWindow, StaleWindow, InvalidView, StaleView, InvalidSurface, StaleSurface, NotInteractive, RevisionConflict}
+use Rattle.records.specs.declared.error.Outcome.{Outcome}
+use Rattle.records.specs.declared.error.Outcome.the-variants.{Accepted, Refused}
 use Rattle.composition_state.specs.declared.registry.Changed.{Changed}
 use Rattle.composition_state.specs.declared.registry.CompositionRegistry.{CompositionRegistry}
-use Rattle.composition_state.specs.declared.trace.ArbitrationEvent.{ArbitrationEvent}
+use Rattle.records.specs.declared.trace.ArbitrationEvent.{ArbitrationEvent}
 use Rattle.composition_state.specs.Damage.{isSound, damageRefusal}
-use Rattle.composition_state.specs.Errors.{errorNumber, numberOf, thenRefusal, refusalIf, statusRefusal}
+use Rattle.records.specs.Errors.{errorNumber, numberOf, thenRefusal, refusalIf, statusRefusal}
 use Rattle.composition_state.specs.Registry.{windowRefusal, conflictRefusal, advanced, settled}
 use Rattle.composition_panels.specs.Windows.{exhaustedRefusal}
 use Prim.Native.Nat.{ℕ}
@@ -25,11 +25,11 @@ use Rattle.lists.specs.Lists.{first}
 use Rattle.lists.specs.Tables.{entriesOf}
 use Rattle.handles.specs.Slots.{lookupOf, liveHandles}
 use Rattle.handles.specs.declared.arena.Arena.{Arena}
-use Rattle.composition_state.specs.declared.surface.SurfaceTable.{SurfaceTable}
-use Rattle.composition_state.specs.declared.trace.ArbitrationEvent.the-variants.{Pointer, PointerStack, PointerFor, PointerStackFor, Keyboard, KeyboardFor, Gamepad, GamepadFor, Text, Shortcut, SystemShortcut}
-use Rattle.composition_state.specs.Shortcuts.{shortcuts}
-use Rattle.composition_state.specs.Surfaces.{isInteractive, descriptorOf, surfaceStatus, surfaceRefusal}
-use Rattle.composition_state.specs.Views.{viewStatus, viewRefusal}
+use Rattle.records.specs.declared.surface.SurfaceTable.{SurfaceTable}
+use Rattle.records.specs.declared.trace.ArbitrationEvent.the-variants.{Pointer, PointerStack, PointerFor, PointerStackFor, Keyboard, KeyboardFor, Gamepad, GamepadFor, Text, Shortcut, SystemShortcut}
+use Rattle.records.specs.Shortcuts.{shortcuts}
+use Rattle.records.specs.Surfaces.{isInteractive, descriptorOf, surfaceStatus, surfaceRefusal}
+use Rattle.records.specs.Views.{viewStatus, viewRefusal}
 use Rattle.composition_input.specs.Focus.{described, interactiveRefusal, entryRefusal}
 use Rattle.composition_shortcuts.specs.OwnView.{isRefused, refusalOf, ownViewRefusal}
 use Rattle.composition_shortcuts.specs.Resolve.{resolvedWith, winner, resolveSystemShortcut}

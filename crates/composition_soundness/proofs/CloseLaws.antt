@@ -13,21 +13,21 @@ use Rattle.lists.proofs.TableLaws.{entries-packed}
 use Rattle.handles.specs.Handles.{sameHandle}
 use Rattle.handles.specs.Slots.{lookupOf, released}
 use Rattle.handles.specs.declared.arena.SlotStatus.the-variants.{Live}
-use Rattle.handles.specs.declared.handle.GenerationalHandle.{GenerationalHandle}
+use Rattle.handles.specs.declared.GenerationalHandle.{GenerationalHandle}
 use Rattle.handles.proofs.ClaimLaws as arena
 use Rattle.handles.proofs.HandleLaws.{handles}
 use Rattle.handles.proofs.LookupLaws.{live-facts}
 use Rattle.handles.proofs.SlotLaws.{by-same}
-use Rattle.composition_state.specs.declared.error.Outcome.{Outcome}
-use Rattle.composition_state.specs.declared.error.Outcome.the-variants.{Accepted, Refused}
+use Rattle.records.specs.declared.error.Outcome.{Outcome}
+use Rattle.records.specs.declared.error.Outcome.the-variants.{Accepted, Refused}
 use Rattle.composition_state.specs.declared.registry.CompositionRegistry.{CompositionRegistry}
-use Rattle.composition_state.specs.declared.surface.SurfaceTable.{SurfaceTable}
-use Rattle.composition_state.specs.declared.view.ViewRecord.{ViewRecord}
-use Rattle.composition_state.specs.Layers.{layers, isLayerOf}
+use Rattle.records.specs.declared.surface.SurfaceTable.{SurfaceTable}
+use Rattle.records.specs.declared.view.ViewRecord.{ViewRecord}
+use Rattle.records.specs.Layers.{layers, isLayerOf}
 use Rattle.composition_state.specs.Registry.{withSurfaces}
-use Rattle.composition_state.specs.Shortcuts.{shortcuts, isOfOtherSlot, shortcutsWithout}
-use Rattle.composition_state.specs.Surfaces.{surfacesWith}
-use Rattle.composition_state.specs.Views.{noView, viewAt}
+use Rattle.records.specs.Shortcuts.{shortcuts, isOfOtherSlot, shortcutsWithout}
+use Rattle.records.specs.Surfaces.{surfacesWith}
+use Rattle.records.specs.Views.{noView, viewAt}
 use Rattle.composition_close.specs.Close.{closeRefusal, detached, freed, closedPanel, slotRefusal, closeSettled, closeAfter, closeSurface}
 use Rattle.composition_close.specs.Detach.{ownView, isOnSurface, detachedView}
 use Rattle.composition_soundness.proofs.ListLaws.{all-as, all-both, kept-few}

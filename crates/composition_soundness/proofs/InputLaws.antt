@@ -14,9 +14,9 @@ use Rattle.lists.specs.Tables.{entriesOf, packed}
 use Rattle.lists.proofs.TableLaws.{entries-packed, len-packed}
 use Rattle.handles.specs.Slots.{slotAt, lookupOf}
 use Rattle.handles.specs.declared.arena.Arena.{Arena}
-use Rattle.handles.specs.declared.handle.GenerationalHandle.{GenerationalHandle}
-use Rattle.handles.specs.declared.handle.OptionalHandle.{OptionalHandle}
-use Rattle.handles.specs.declared.handle.OptionalHandle.the-variants as O
+use Rattle.handles.specs.declared.GenerationalHandle.{GenerationalHandle}
+use Rattle.handles.specs.declared.OptionalHandle.{OptionalHandle}
+use Rattle.handles.specs.declared.OptionalHandle.the-variants as O
 use Rattle.maps.specs.Captures.{captures, captureKey}
 use Rattle.maps.specs.Keys.{pointerKey, keyLt, keySame, pointerValid}
 use Rattle.maps.specs.MapTables.{accepts, inserted, retained}
@@ -24,18 +24,18 @@ use Rattle.maps.specs.declared.captures.Capture.{Capture}
 use Rattle.maps.specs.declared.captures.PointerCaptures.{PointerCaptures}
 use Rattle.maps.specs.declared.keys.CompositionPointerId.{CompositionPointerId}
 use Rattle.maps.proofs.MapTableLaws as map
-use Rattle.composition_state.specs.declared.error.CompositionError.the-variants.{NotInteractive, PortLimit}
-use Rattle.composition_state.specs.declared.error.Outcome.the-variants.{Accepted}
+use Rattle.records.specs.declared.error.CompositionError.the-variants.{NotInteractive, PortLimit}
+use Rattle.records.specs.declared.error.Outcome.the-variants.{Accepted}
 use Rattle.composition_state.specs.declared.registry.Changed.{Changed}
 use Rattle.composition_state.specs.declared.registry.CompositionRegistry.{CompositionRegistry}
-use Rattle.composition_state.specs.declared.surface.SurfaceTable.{SurfaceTable}
-use Rattle.composition_state.specs.declared.view.ViewRecord.{ViewRecord}
-use Rattle.composition_state.specs.declared.view.ViewTable.{ViewTable}
+use Rattle.records.specs.declared.surface.SurfaceTable.{SurfaceTable}
+use Rattle.records.specs.declared.view.ViewRecord.{ViewRecord}
+use Rattle.records.specs.declared.view.ViewTable.{ViewTable}
 use Rattle.composition_state.specs.Damage.{viewHandle}
-use Rattle.composition_state.specs.Errors.{refusalIf}
+use Rattle.records.specs.Errors.{refusalIf}
 use Rattle.composition_state.specs.Registry.{withViews}
-use Rattle.composition_state.specs.Surfaces.{surfaceRefusal}
-use Rattle.composition_state.specs.Views.{viewAt, viewRefusal, viewSlots, withFocus, withIme, withPointerCapture, withPointerCaptures}
+use Rattle.records.specs.Surfaces.{surfaceRefusal}
+use Rattle.records.specs.Views.{viewAt, viewRefusal, viewSlots, withFocus, withIme, withPointerCapture, withPointerCaptures}
 use Rattle.composition_state.proofs.SettleLaws.{then-last, if-accepted}
 use Rattle.composition_input.specs.Focus.{entryRefusal, ownView, interactiveRefusal, withViewRecord, focusRefusal, setFocus, beginImeRefusal, beginIme, endImeRefusal, endIme, suspendRefusal, suspendedView, suspendViewInput}
 use Rattle.composition_input.specs.Captures.{primary, isPrimary, capture, ownRecord, captureRefusal, capturedView, capturePointerFor, releasedView, releaseForRefusal, releasePointerFor, releaseRefusal, releasePointer, isOfDevice, losesPrimary, leftView, clearedAt, deviceCaptures, deviceCleared, deviceRefusal, releaseDevicePointerCaptures}

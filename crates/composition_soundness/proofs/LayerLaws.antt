@@ -16,13 +16,13 @@ use Rattle.handles.specs.Handles.{sameHandle}
 use Rattle.handles.specs.Slots.{lookupOf}
 use Rattle.handles.specs.declared.arena.SlotStatus.{SlotStatus}
 use Rattle.handles.specs.declared.arena.SlotStatus.the-variants.{Live}
-use Rattle.handles.specs.declared.handle.GenerationalHandle.{GenerationalHandle}
+use Rattle.handles.specs.declared.GenerationalHandle.{GenerationalHandle}
 use Rattle.handles.proofs.HandleLaws.{handles}
-use Rattle.composition_state.specs.declared.layers.Layers.{Layers}
-use Rattle.composition_state.specs.declared.surface.SurfaceTable.{SurfaceTable}
-use Rattle.composition_state.specs.Layers.{layers, itself, layerLt, layersWith, isLive, isLayerOf}
-use Rattle.composition_state.specs.Surfaces.{descriptorOf}
-use Rattle.composition_state.proofs.LayerLaws as layer
+use Rattle.records.specs.declared.layers.Layers.{Layers}
+use Rattle.records.specs.declared.surface.SurfaceTable.{SurfaceTable}
+use Rattle.records.specs.Layers.{layers, itself, layerLt, layersWith, isLive, isLayerOf}
+use Rattle.records.specs.Surfaces.{descriptorOf}
+use Rattle.records.proofs.LayerLaws as layer
 use Rattle.composition_soundness.proofs.CaseLaws.{live-is}
 use Rattle.composition_soundness.proofs.ListLaws.{all-keep, entries-few, kept-few}
 use Rattle.composition_soundness.proofs.ChangeLaws.{LayerParts}

@@ -14,7 +14,7 @@ use Rattle.handles.specs.declared.arena.Arena.{Arena}
 use Rattle.handles.specs.declared.arena.Slot.{Slot}
 use Rattle.handles.specs.declared.arena.SlotStatus.{SlotStatus}
 use Rattle.handles.specs.declared.arena.SlotStatus.the-variants.{Live, Invalid, Stale}
-use Rattle.handles.specs.declared.handle.GenerationalHandle.{GenerationalHandle}
+use Rattle.handles.specs.declared.GenerationalHandle.{GenerationalHandle}
 use Rattle.handles.proofs.ClaimLaws.{claims}
 use Rattle.handles.proofs.LookupLaws.{issued-valid, live-facts, live-when}
 use Rattle.handles.proofs.ReleaseLaws.{by-release, vacant-there, emptied-others}

@@ -9,16 +9,16 @@ use Rattle.lists.proofs.TableLaws.{len-packed}
 use Rattle.geometry.specs.declared.metrics.ViewMetricsUpdate.{ViewMetricsUpdate}
 use Rattle.geometry.specs.declared.surface.SurfaceGeometry.{SurfaceGeometry}
 use Rattle.handles.specs.Handles.{sameHandle}
-use Rattle.handles.specs.declared.handle.GenerationalHandle.{GenerationalHandle}
+use Rattle.handles.specs.declared.GenerationalHandle.{GenerationalHandle}
 use Rattle.composition_state.specs.declared.registry.CompositionRegistry.{CompositionRegistry}
-use Rattle.composition_state.specs.declared.surface.SurfaceInputPolicy.{SurfaceInputPolicy}
-use Rattle.composition_state.specs.declared.surface.SurfaceRecord.{SurfaceRecord}
-use Rattle.composition_state.specs.declared.surface.SurfaceTable.{SurfaceTable}
-use Rattle.composition_state.specs.Layers.{isLive, isLayerOf}
+use Rattle.records.specs.declared.surface.SurfaceInputPolicy.{SurfaceInputPolicy}
+use Rattle.records.specs.declared.surface.SurfaceRecord.{SurfaceRecord}
+use Rattle.records.specs.declared.surface.SurfaceTable.{SurfaceTable}
+use Rattle.records.specs.Layers.{isLive, isLayerOf}
 use Rattle.composition_state.specs.Registry.{withSurfaces}
-use Rattle.composition_state.specs.Shortcuts.{shortcuts}
-use Rattle.composition_state.specs.Surfaces.{noSurface, surfaceAt, surfaceStatus, withSurface, withGeometry, withInput}
-use Rattle.composition_state.specs.Views.{viewAt, withMetrics}
+use Rattle.records.specs.Shortcuts.{shortcuts}
+use Rattle.records.specs.Surfaces.{noSurface, surfaceAt, surfaceStatus, withSurface, withGeometry, withInput}
+use Rattle.records.specs.Views.{viewAt, withMetrics}
 use Rattle.composition_panels.specs.Metrics.{metricsRefusal, newMetrics, updateViewMetrics}
 use Rattle.composition_panels.specs.Panels.{geometryRefusal, updateSurfaceGeometry, policyRefusal, updateSurfaceInputPolicy}
 use Rattle.composition_shortcuts.specs.declared.register.Registrations.{Registrations}

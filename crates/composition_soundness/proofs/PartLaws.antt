@@ -15,19 +15,19 @@ use Rattle.handles.specs.WellFormed.{wellFormed}
 use Rattle.handles.specs.Claims.{Proper}
 use Rattle.handles.specs.declared.arena.Arena.{Arena}
 use Rattle.handles.specs.declared.arena.SlotStatus.the-variants.{Live}
-use Rattle.handles.specs.declared.handle.GenerationalHandle.{GenerationalHandle}
+use Rattle.handles.specs.declared.GenerationalHandle.{GenerationalHandle}
 use Rattle.handles.proofs.LookupLaws.{live-facts}
-use Rattle.composition_state.specs.declared.error.Outcome.{Outcome}
-use Rattle.composition_state.specs.declared.error.Outcome.the-variants.{Accepted, Refused}
+use Rattle.records.specs.declared.error.Outcome.{Outcome}
+use Rattle.records.specs.declared.error.Outcome.the-variants.{Accepted, Refused}
 use Rattle.composition_state.specs.declared.registry.Changed.{Changed}
 use Rattle.composition_state.specs.declared.registry.CompositionLimits.{CompositionLimits}
 use Rattle.composition_state.specs.declared.registry.CompositionRegistry.{CompositionRegistry}
-use Rattle.composition_state.specs.declared.surface.SurfaceTable.{SurfaceTable}
-use Rattle.composition_state.specs.declared.view.ViewTable.{ViewTable}
+use Rattle.records.specs.declared.surface.SurfaceTable.{SurfaceTable}
+use Rattle.records.specs.declared.view.ViewTable.{ViewTable}
 use Rattle.composition_state.specs.Damage.{limitsSound, arenasSound, tracesSound, viewSound, viewHandle, slotSound, viewsSound, isSound}
 use Rattle.composition_state.specs.Registry.{withRevision, advanced, settled}
 use Rattle.composition_state.specs.Start.{anyZero, anyOverPort}
-use Rattle.composition_state.specs.Views.{viewAt}
+use Rattle.records.specs.Views.{viewAt}
 use Rattle.composition_soundness.specs.Claims.{WholeArena, Undamaged}
 use Rattle.composition_state.proofs.DamageLaws.{or-left, or-right}
 use Rattle.composition_soundness.proofs.CaseLaws.{either}

@@ -15,22 +15,22 @@ use Rattle.handles.specs.Handles.{handleOf}
 use Rattle.handles.specs.Slots.{slotAt, lookupOf, released, usedPlaces, isExhausted, noneExhausted}
 use Rattle.handles.specs.declared.arena.Arena.{Arena}
 use Rattle.handles.specs.declared.arena.SlotStatus.the-variants.{Live}
-use Rattle.handles.specs.declared.handle.GenerationalHandle.{GenerationalHandle}
+use Rattle.handles.specs.declared.GenerationalHandle.{GenerationalHandle}
 use Rattle.handles.proofs.ClaimLaws as arena
 use Rattle.handles.proofs.ListedLaws.{places}
 use Rattle.handles.proofs.LookupLaws.{live-facts}
 use Rattle.handles.proofs.SoundLaws.{sound}
-use Rattle.composition_state.specs.declared.error.CompositionError.the-variants.{RevisionExhausted, GenerationExhausted}
-use Rattle.composition_state.specs.declared.error.Outcome.{Outcome}
-use Rattle.composition_state.specs.declared.error.Outcome.the-variants.{Accepted, Refused}
+use Rattle.records.specs.declared.error.CompositionError.the-variants.{RevisionExhausted, GenerationExhausted}
+use Rattle.records.specs.declared.error.Outcome.{Outcome}
+use Rattle.records.specs.declared.error.Outcome.the-variants.{Accepted, Refused}
 use Rattle.composition_state.specs.declared.registry.Changed.{Changed}
 use Rattle.composition_state.specs.declared.registry.CompositionRegistry.{CompositionRegistry}
-use Rattle.composition_state.specs.declared.view.ViewTable.{ViewTable}
+use Rattle.records.specs.declared.view.ViewTable.{ViewTable}
 use Rattle.composition_state.specs.Damage.{damageRefusal, viewHandle}
-use Rattle.composition_state.specs.Errors.{refusalIf}
-use Rattle.composition_state.specs.Layers.{layers, isLive}
+use Rattle.records.specs.Errors.{refusalIf}
+use Rattle.records.specs.Layers.{layers, isLive}
 use Rattle.composition_state.specs.Registry.{withWindows, withViews, advanced}
-use Rattle.composition_state.specs.Views.{viewAt, viewSlots, viewsWith}
+use Rattle.records.specs.Views.{viewAt, viewSlots, viewsWith}
 use Rattle.composition_state.proofs.SettleLaws.{then-last, if-accepted}
 use Rattle.composition_close.specs.declared.shutdown.Closing.{Closing}
 use Rattle.composition_close.specs.Close.{detached, freed, closedPanel}

@@ -12,17 +12,17 @@ use Rattle.lists.proofs.ListLaws.{by-test, clash, and-both}
 use Rattle.lists.proofs.TableLaws.{entries-packed, len-packed}
 use Rattle.handles.specs.Slots.{emptyArena, lookupOf}
 use Rattle.handles.specs.declared.arena.SlotStatus.the-variants.{Live}
-use Rattle.handles.specs.declared.handle.GenerationalHandle.{GenerationalHandle}
+use Rattle.handles.specs.declared.GenerationalHandle.{GenerationalHandle}
 use Rattle.handles.proofs.ClaimLaws.{claims}
 use Rattle.handles.proofs.LookupLaws.{live-facts}
-use Rattle.composition_state.specs.declared.error.CompositionError.the-variants.{InvalidConfig, InvalidOwner, PortLimit}
-use Rattle.composition_state.specs.declared.error.Outcome.the-variants.{Accepted}
+use Rattle.records.specs.declared.error.CompositionError.the-variants.{InvalidConfig, InvalidOwner, PortLimit}
+use Rattle.records.specs.declared.error.Outcome.the-variants.{Accepted}
 use Rattle.composition_state.specs.declared.registry.CompositionLimits.{CompositionLimits}
 use Rattle.composition_state.specs.Damage.{limitsSound, traceSound, tracesSound}
-use Rattle.composition_state.specs.Errors.{isAccepted, refusalIf}
-use Rattle.composition_state.specs.Shortcuts.{shortcuts}
+use Rattle.records.specs.Errors.{isAccepted, refusalIf}
+use Rattle.records.specs.Shortcuts.{shortcuts}
 use Rattle.composition_state.specs.Start.{anyZero, anyOverU32, anyOverPort, isUnowned, isMisconfigured, startRefusal, freshRegistry, started}
-use Rattle.composition_state.specs.Traces.{traces}
+use Rattle.records.specs.Traces.{traces}
 use Rattle.composition_state.proofs.SettleLaws.{accepted-eq, then-last, if-accepted}
 use Rattle.composition_state.proofs.DamageLaws.{or-left, or-right}
 use Rattle.composition_soundness.proofs.CaseLaws.{then-first}

@@ -13,19 +13,19 @@ use Rattle.lists.proofs.ListLaws.{by-test, and-right, and-both, all-append, len
 use Rattle.lists.proofs.TableLaws.{entries-packed, len-packed}
 use Rattle.handles.specs.Slots.{lookupOf}
 use Rattle.handles.specs.declared.arena.SlotStatus.the-variants.{Live}
-use Rattle.handles.specs.declared.handle.GenerationalHandle.{GenerationalHandle}
-use Rattle.handles.specs.declared.handle.OptionalHandle.{OptionalHandle}
-use Rattle.handles.specs.declared.handle.OptionalHandle.the-variants.{None, Some}
-use Rattle.composition_state.specs.declared.error.CompositionError.the-variants.{InvalidView, StaleView, PortLimit}
+use Rattle.handles.specs.declared.GenerationalHandle.{GenerationalHandle}
+use Rattle.handles.specs.declared.OptionalHandle.{OptionalHandle}
+use Rattle.handles.specs.declared.OptionalHandle.the-variants.{None, Some}
+use Rattle.records.specs.declared.error.CompositionError.the-variants.{InvalidView, StaleView, PortLimit}
 use Rattle.composition_state.specs.declared.registry.CompositionRegistry.{CompositionRegistry}
-use Rattle.composition_state.specs.declared.trace.ArbitrationEvent.{ArbitrationEvent}
-use Rattle.composition_state.specs.declared.trace.CompositionTrace.{CompositionTrace}
-use Rattle.composition_state.specs.declared.trace.Hits.{Hits}
-use Rattle.composition_state.specs.declared.trace.Traces.{Traces}
+use Rattle.records.specs.declared.trace.ArbitrationEvent.{ArbitrationEvent}
+use Rattle.records.specs.declared.trace.CompositionTrace.{CompositionTrace}
+use Rattle.records.specs.declared.trace.Hits.{Hits}
+use Rattle.records.specs.declared.trace.Traces.{Traces}
 use Rattle.composition_state.specs.Damage.{damageRefusal, traceSound, tracesSound}
-use Rattle.composition_state.specs.Layers.{layers}
-use Rattle.composition_state.specs.Traces.{hits, traces, deliveries}
-use Rattle.composition_state.specs.Views.{viewAt, viewRefusal}
+use Rattle.records.specs.Layers.{layers}
+use Rattle.records.specs.Traces.{hits, traces, deliveries}
+use Rattle.records.specs.Views.{viewAt, viewRefusal}
 use Rattle.composition_state.proofs.SettleLaws.{then-last, if-accepted}
 use Rattle.composition_arbitration.specs.declared.walk.Verdict.{Verdict}
 use Rattle.composition_arbitration.specs.declared.walk.Walked.{Walked}

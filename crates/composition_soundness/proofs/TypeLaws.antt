@@ -11,10 +11,10 @@ use Rattle.handles.proofs.arena.Arena.Laws as A′
 use Rattle.composition_state.specs.declared.registry.CompositionRegistry.{CompositionRegistry}
 use Rattle.composition_state.proofs.registry.CompositionRegistry as R
 use Rattle.composition_state.proofs.registry.CompositionRegistry.Laws as R′
-use Rattle.composition_state.proofs.surface.SurfaceTable as S
-use Rattle.composition_state.proofs.surface.SurfaceTable.Laws as S′
-use Rattle.composition_state.proofs.view.ViewTable as T
-use Rattle.composition_state.proofs.view.ViewTable.Laws as T′
+use Rattle.records.proofs.surface.SurfaceTable as S
+use Rattle.records.proofs.surface.SurfaceTable.Laws as S′
+use Rattle.records.proofs.view.ViewTable as T
+use Rattle.records.proofs.view.ViewTable.Laws as T′
 use Rattle.composition_soundness.specs.Claims.{WholeArena, Whole}
 
 arena-whole : (a : Arena) {vs : List Val} → Is A.the-row a vs → WholeArena a

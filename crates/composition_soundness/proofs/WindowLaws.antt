@@ -20,20 +20,20 @@ use Rattle.handles.specs.Handles.{sameHandle}
 use Rattle.handles.specs.Slots.{lookupOf, released}
 use Rattle.handles.specs.declared.arena.Allocation.{Allocation}
 use Rattle.handles.specs.declared.arena.SlotStatus.the-variants.{Live}
-use Rattle.handles.specs.declared.handle.GenerationalHandle.{GenerationalHandle}
+use Rattle.handles.specs.declared.GenerationalHandle.{GenerationalHandle}
 use Rattle.handles.proofs.ClaimLaws as arena
 use Rattle.handles.proofs.HandleLaws.{handles}
 use Rattle.handles.proofs.LookupLaws.{live-facts}
-use Rattle.composition_state.specs.declared.error.CompositionError.the-variants.{Capacity, WindowInUse, InvalidWindow, StaleWindow}
+use Rattle.records.specs.declared.error.CompositionError.the-variants.{Capacity, WindowInUse, InvalidWindow, StaleWindow}
 use Rattle.composition_state.specs.declared.registry.CompositionRegistry.{CompositionRegistry}
-use Rattle.composition_state.specs.declared.surface.SurfaceTable.{SurfaceTable}
-use Rattle.composition_state.specs.declared.view.ViewRecord.{ViewRecord}
-use Rattle.composition_state.specs.declared.view.ViewTable.{ViewTable}
+use Rattle.records.specs.declared.surface.SurfaceTable.{SurfaceTable}
+use Rattle.records.specs.declared.view.ViewRecord.{ViewRecord}
+use Rattle.records.specs.declared.view.ViewTable.{ViewTable}
 use Rattle.composition_state.specs.Damage.{damageRefusal}
-use Rattle.composition_state.specs.Errors.{refusalIf}
-use Rattle.composition_state.specs.Layers.{layers, itself, layerLt, isLayerOf}
+use Rattle.records.specs.Errors.{refusalIf}
+use Rattle.records.specs.Layers.{layers, itself, layerLt, isLayerOf}
 use Rattle.composition_state.specs.Registry.{withWindows, withViews, windowRefusal}
-use Rattle.composition_state.specs.Views.{freshView, noView, viewAt, viewSlots, viewsWith}
+use Rattle.records.specs.Views.{freshView, noView, viewAt, viewSlots, viewsWith}
 use Rattle.composition_state.proofs.SettleLaws.{then-last, if-accepted}
 use Rattle.composition_panels.specs.Windows.{createWindowRefusal, newWindow, createWindow, standsIn, isWindowInUse, closeWindowRefusal, closeWindow, createViewRefusal, newView, createView, closeViewRefusal, closeView}
 use Rattle.composition_soundness.proofs.CaseLaws.{then-first, status-live, by-handle}

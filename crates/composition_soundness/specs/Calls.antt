@@ -3,15 +3,15 @@ use Prim.Native.Nat.{ℕ}
 use mathlib.Core.List.{List, [], _∷_}
 use Rattle.geometry.specs.declared.metrics.ViewMetricsUpdate.{ViewMetricsUpdate}
 use Rattle.geometry.specs.declared.surface.SurfaceGeometry.{SurfaceGeometry}
-use Rattle.handles.specs.declared.handle.GenerationalHandle.{GenerationalHandle}
-use Rattle.handles.specs.declared.handle.OptionalHandle.{OptionalHandle}
+use Rattle.handles.specs.declared.GenerationalHandle.{GenerationalHandle}
+use Rattle.handles.specs.declared.OptionalHandle.{OptionalHandle}
 use Rattle.maps.specs.declared.keys.CompositionPointerId.{CompositionPointerId}
-use Rattle.composition_state.specs.declared.error.Outcome.{Outcome}
+use Rattle.records.specs.declared.error.Outcome.{Outcome}
 use Rattle.composition_state.specs.declared.registry.CompositionRegistry.{CompositionRegistry}
-use Rattle.composition_state.specs.declared.surface.SurfaceDescriptor.{SurfaceDescriptor}
-use Rattle.composition_state.specs.declared.surface.SurfaceInputPolicy.{SurfaceInputPolicy}
-use Rattle.composition_state.specs.declared.trace.ArbitrationEvent.{ArbitrationEvent}
-use Rattle.composition_state.specs.declared.trace.Hits.{Hits}
+use Rattle.records.specs.declared.surface.SurfaceDescriptor.{SurfaceDescriptor}
+use Rattle.records.specs.declared.surface.SurfaceInputPolicy.{SurfaceInputPolicy}
+use Rattle.records.specs.declared.trace.ArbitrationEvent.{ArbitrationEvent}
+use Rattle.records.specs.declared.trace.Hits.{Hits}
 use Rattle.composition_panels.specs.Windows.{createWindow, closeWindow, createView, closeView}
 use Rattle.composition_panels.specs.Metrics.{updateViewMetrics}
 use Rattle.composition_panels.specs.Panels.{attachSurface, updateSurfaceGeometry, updateSurfaceInputPolicy}

@@ -1,6 +1,6 @@
 -- Document 01, every call: 42 first, if the registry handed in is damaged in one of these ways, and in no other.
 use Prim.Native.Nat.{ℕ}
-use mathlib.Core.Bool.{Bool, true, false, cond, not, _&&_, _||_}
+use mathlib.Core.Bool.{Bool, true, cond, not, _&&_, _||_}
 use lib.Dec.{leb, eqb}
 use Rattle.lists.specs.Lists.{all}
 use Rattle.lists.specs.Below.{allBelow}
@@ -8,25 +8,25 @@ use Rattle.lists.specs.Tables.{entriesOf}
 use Rattle.handles.specs.Handles.{handleOf}
 use Rattle.handles.specs.Slots.{slotAt, lookupOf}
 use Rattle.handles.specs.WellFormed.{wellFormed}
-use Rattle.handles.specs.declared.handle.GenerationalHandle.{GenerationalHandle}
+use Rattle.handles.specs.declared.GenerationalHandle.{GenerationalHandle}
 use Rattle.handles.specs.declared.arena.Arena.{Arena}
 use Rattle.handles.specs.declared.arena.Slot.{Slot}
 use Rattle.maps.specs.MapTables.{keysRise}
 use Rattle.maps.specs.Captures.{captures, captureKey}
-use Rattle.composition_state.specs.declared.error.CompositionError.the-variants.{Damaged}
-use Rattle.composition_state.specs.declared.error.Outcome.{Outcome}
+use Rattle.records.specs.declared.error.CompositionError.the-variants.{Damaged}
+use Rattle.records.specs.declared.error.Outcome.{Outcome}
 use Rattle.composition_state.specs.declared.registry.CompositionLimits.{CompositionLimits}
 use Rattle.composition_state.specs.declared.registry.CompositionRegistry.{CompositionRegistry}
-use Rattle.composition_state.specs.declared.surface.SurfaceTable.{SurfaceTable}
-use Rattle.composition_state.specs.declared.trace.CompositionTrace.{CompositionTrace}
-use Rattle.composition_state.specs.declared.trace.Traces.{Traces}
-use Rattle.composition_state.specs.declared.view.ViewRecord.{ViewRecord}
-use Rattle.composition_state.specs.declared.view.ViewTable.{ViewTable}
-use Rattle.composition_state.specs.Errors.{refusalIf}
-use Rattle.composition_state.specs.Layers.{layers, isLayerOf, layersRise, isLive}
+use Rattle.records.specs.declared.surface.SurfaceTable.{SurfaceTable}
+use Rattle.records.specs.declared.trace.CompositionTrace.{CompositionTrace}
+use Rattle.records.specs.declared.trace.Traces.{Traces}
+use Rattle.records.specs.declared.view.ViewRecord.{ViewRecord}
+use Rattle.records.specs.declared.view.ViewTable.{ViewTable}
+use Rattle.records.specs.Errors.{refusalIf}
+use Rattle.records.specs.Layers.{layers, isLayerOf, layersRise, isLive}
 use Rattle.composition_state.specs.Start.{anyZero, anyOverPort}
-use Rattle.composition_state.specs.Traces.{traces}
-use Rattle.composition_state.specs.Views.{viewAt}
+use Rattle.records.specs.Traces.{traces}
+use Rattle.records.specs.Views.{viewAt}
 
 -- a stored limit or first generation is one the start refuses
 abbrev pub limitsSound : CompositionLimits → ℕ → Bool

@@ -1,9 +1,3 @@
-pub mod Errors
-pub mod Surfaces
-pub mod Layers
-pub mod Views
-pub mod Shortcuts
-pub mod Traces
 pub mod Registry
 pub mod Start
 pub mod Damage

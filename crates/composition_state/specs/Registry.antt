@@ -1,20 +1,20 @@
 -- The registry with one field changed, its revision, and what a refused call answers.
 use Prim.Native.Nat.{ℕ, _+_}
-use mathlib.Core.Bool.{Bool, true, false, cond, not}
+use mathlib.Core.Bool.{Bool, cond, not}
 use lib.Dec.{eqb}
 use Rattle.handles.specs.Slots.{lookupOf}
-use Rattle.handles.specs.declared.handle.GenerationalHandle.{GenerationalHandle}
+use Rattle.handles.specs.declared.GenerationalHandle.{GenerationalHandle}
 use Rattle.handles.specs.declared.arena.Arena.{Arena}
-use Rattle.composition_state.specs.declared.error.CompositionError.the-variants.{InvalidWindow, StaleWindow, RevisionConflict, RevisionExhausted}
-use Rattle.composition_state.specs.declared.error.Outcome.{Outcome}
-use Rattle.composition_state.specs.declared.error.Outcome.the-variants.{Accepted, Refused}
-use Rattle.composition_state.specs.declared.view.ViewTable.{ViewTable}
-use Rattle.composition_state.specs.declared.surface.SurfaceTable.{SurfaceTable}
-use Rattle.composition_state.specs.declared.shortcut.Shortcuts.{Shortcuts}
-use Rattle.composition_state.specs.declared.trace.Traces.{Traces}
+use Rattle.records.specs.declared.error.CompositionError.the-variants.{InvalidWindow, StaleWindow, RevisionConflict, RevisionExhausted}
+use Rattle.records.specs.declared.error.Outcome.{Outcome}
+use Rattle.records.specs.declared.error.Outcome.the-variants.{Accepted, Refused}
+use Rattle.records.specs.declared.view.ViewTable.{ViewTable}
+use Rattle.records.specs.declared.surface.SurfaceTable.{SurfaceTable}
+use Rattle.records.specs.declared.shortcut.Shortcuts.{Shortcuts}
+use Rattle.records.specs.declared.trace.Traces.{Traces}
 use Rattle.composition_state.specs.declared.registry.CompositionRegistry.{CompositionRegistry}
 use Rattle.composition_state.specs.declared.registry.Changed.{Changed}
-use Rattle.composition_state.specs.Errors.{statusRefusal, refusalIf}
+use Rattle.records.specs.Errors.{statusRefusal, refusalIf}
 
 -- the registry with one field changed
 abbrev pub withRevision : ℕ → CompositionRegistry → CompositionRegistry

@@ -1,24 +1,24 @@
 -- Document 01, Start: 2 (invalid session or epoch 0), 1 (a limit is 0), 41; and the registry that it makes.
 use Prim.Native.Nat.{ℕ}
-use mathlib.Core.Bool.{Bool, true, false, cond, not, _||_}
+use mathlib.Core.Bool.{Bool, cond, not, _||_}
 use mathlib.Core.List.{[]}
 use lib.ListN.{replicate}
 use lib.Dec.{ltb, eqb}
 use Rattle.lists.specs.Tables.{packed}
 use Rattle.handles.specs.Handles.{handleOf, isValid}
 use Rattle.handles.specs.Slots.{emptyArena}
-use Rattle.handles.specs.declared.handle.GenerationalHandle.{GenerationalHandle}
-use Rattle.composition_state.specs.declared.error.CompositionError.the-variants.{InvalidConfig, InvalidOwner, PortLimit}
-use Rattle.composition_state.specs.declared.error.Outcome.{Outcome}
-use Rattle.composition_state.specs.declared.error.Outcome.the-variants.{Accepted, Refused}
+use Rattle.handles.specs.declared.GenerationalHandle.{GenerationalHandle}
+use Rattle.records.specs.declared.error.CompositionError.the-variants.{InvalidConfig, InvalidOwner, PortLimit}
+use Rattle.records.specs.declared.error.Outcome.{Outcome}
+use Rattle.records.specs.declared.error.Outcome.the-variants.{Accepted, Refused}
 use Rattle.composition_state.specs.declared.registry.CompositionLimits.{CompositionLimits}
 use Rattle.composition_state.specs.declared.registry.CompositionRegistry.{CompositionRegistry}
 use Rattle.composition_state.specs.declared.registry.Changed.{Changed}
-use Rattle.composition_state.specs.Errors.{thenRefusal, refusalIf, isAccepted}
-use Rattle.composition_state.specs.Surfaces.{noSurface}
-use Rattle.composition_state.specs.Views.{noView}
-use Rattle.composition_state.specs.Shortcuts.{shortcuts}
-use Rattle.composition_state.specs.Traces.{traces}
+use Rattle.records.specs.Errors.{thenRefusal, refusalIf, isAccepted}
+use Rattle.records.specs.Surfaces.{noSurface}
+use Rattle.records.specs.Views.{noView}
+use Rattle.records.specs.Shortcuts.{shortcuts}
+use Rattle.records.specs.Traces.{traces}
 use Rattle.composition_state.specs.Registry.{answered}
 
 abbrev pub anyZero : CompositionLimits → Bool

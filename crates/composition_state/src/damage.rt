@@ -3,26 +3,25 @@ ghost use mathlib.Core.Path.{_≡_};
 ghost use mathlib.Core.Bool.{cond, true};
 ghost use Prim.Native.Nat.{_≤_, _<_};
 ghost use lib.ListN.{length};
-ghost use Rattle.lists.specs.Lists.{all};
 ghost use Rattle.lists.specs.Tables.{entriesOf};
-ghost use Rattle.composition_state.specs.Traces.{traces};
+ghost use Rattle.records.specs.Traces.{traces};
 ghost use Rattle.handles.specs.Handles.{handleOf};
 ghost use Rattle.composition_state.specs.Damage.{limitsSound, arenasSound, traceSound, tracesSound, layersSound, viewSound, viewsSound, isSound, damageRefusal};
-use crate::error::CompositionError;
-use crate::error::Outcome;
 use crate::registry::CompositionLimits;
 use crate::registry::CompositionRegistry;
-use crate::surface::SurfaceTable;
-use crate::trace::CompositionTrace;
-use crate::trace::Traces;
-use crate::view::ViewRecord;
-use crate::view::ViewTable;
+use handles::GenerationalHandle;
 use handles::arena::Arena;
 use handles::arena::Slot;
 use handles::arena::SlotStatus;
-use handles::handle::GenerationalHandle;
 use handles::well_formed::is_well_formed;
 use lists::both;
+use records::error::CompositionError;
+use records::error::Outcome;
+use records::surface::SurfaceTable;
+use records::trace::CompositionTrace;
+use records::trace::Traces;
+use records::view::ViewRecord;
+use records::view::ViewTable;
 
 fn are_limits_sound(limits: CompositionLimits, first_generation: u32) -> bool
     ensures { λ r. ⌜ r ≡ limitsSound limits «first_generation» ⌝ }
@@ -55,9 +54,7 @@ fn are_arenas_sound(
 fn is_trace_sound(trace: CompositionTrace) -> bool
     ensures { λ r. ⌜ r ≡ traceSound trace ⌝ }
 {
-    let hits = trace.hits;
-    let deliveries = trace.deliveries;
-    both(hits.len <= 16, deliveries.len <= 16)
+    both(trace.hits.len <= 16, trace.deliveries.len <= 16)
 }
 
 fn count_traces(stored: Traces) -> usize
@@ -93,11 +90,10 @@ fn are_layers_sound(
 ) -> bool
     ensures { λ r. ⌜ r ≡ layersSound surfaces limit view v ⌝ }
 {
-    let layers = v.surfaces;
     let records = surfaces.records;
-    let within = (layers.len as u64) <= limit;
-    let of_view = layers.are_of(surfaces, view);
-    let rising = layers.is_rising(records);
+    let within = (v.surfaces.len as u64) <= limit;
+    let of_view = v.surfaces.are_of(surfaces, view);
+    let rising = v.surfaces.is_rising(records);
     both(within, both(of_view, rising))
 }
 
@@ -110,13 +106,11 @@ fn is_view_sound(
 ) -> bool
     ensures { λ r. ⌜ r ≡ viewSound windows surfaces limit view v ⌝ }
 {
-    let window = v.window;
-    let captures = v.pointer_captures;
-    match handles::arena::lookup(windows, window) {
+    match handles::arena::lookup(windows, v.window) {
         SlotStatus::Live => {
             let layered = are_layers_sound(surfaces, limit, view, v);
-            let within = captures.len <= 32;
-            let rising = captures.is_rising();
+            let within = v.pointer_captures.len <= 32;
+            let rising = v.pointer_captures.is_rising();
             both(layered, both(within, rising))
         }
         SlotStatus::Invalid => false,
@@ -168,23 +162,20 @@ impl CompositionRegistry {
     pub fn is_sound(self) -> bool
         ensures { λ r. ⌜ r ≡ isSound self ⌝ }
     {
-        let limits = self.limits;
-        let windows = self.windows;
-        let views = self.views;
-        let surfaces = self.surfaces;
-        let shortcuts = self.shortcuts;
-        let traces = self.traces;
-        let view_arena = views.arena;
-        let surface_arena = surfaces.arena;
-        if are_limits_sound(limits, self.first_generation) {
-            if are_arenas_sound(limits, windows, view_arena, surface_arena) {
-                if shortcuts.len <= 256 {
-                    if are_traces_sound(limits.max_trace_entries, traces) {
+        if are_limits_sound(self.limits, self.first_generation) {
+            if are_arenas_sound(
+                self.limits,
+                self.windows,
+                self.views.arena,
+                self.surfaces.arena,
+            ) {
+                if self.shortcuts.len <= 256 {
+                    if are_traces_sound(self.limits.max_trace_entries, self.traces) {
                         return are_views_sound(
-                            windows,
-                            surfaces,
-                            limits.max_surfaces_per_view,
-                            views,
+                            self.windows,
+                            self.surfaces,
+                            self.limits.max_surfaces_per_view,
+                            self.views,
                         );
                     }
                 }
@@ -197,6 +188,6 @@ impl CompositionRegistry {
     pub fn damage(self) -> Outcome
         ensures { λ r. ⌜ r ≡ damageRefusal self ⌝ }
     {
-        crate::error::refuse_if(!self.is_sound(), CompositionError::Damaged)
+        records::error::refuse_if(!self.is_sound(), CompositionError::Damaged)
     }
 }

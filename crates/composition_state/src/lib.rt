@@ -1,10 +1,4 @@
-// The registry as a value: its types, its start, its damage test, and what the calls above it read and store.
+// The registry as a value: its start, its damage test, and how a call leaves it.
 pub mod damage;
-pub mod error;
-pub mod layers;
 pub mod registry;
-pub mod shortcut;
 pub mod start;
-pub mod surface;
-pub mod trace;
-pub mod view;

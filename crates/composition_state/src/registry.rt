@@ -1,14 +1,14 @@
 // The registry: one value that holds all windows, views and panels.
 ghost use mathlib.Core.Path.{_≡_};
 ghost use Rattle.composition_state.specs.Registry.{withWindows, withViews, withSurfaces, withShortcuts, withTraces, windowRefusal, conflictRefusal, advanced, settled};
-use crate::error::CompositionError;
-use crate::error::Outcome;
-use crate::shortcut::Shortcuts;
-use crate::surface::SurfaceTable;
-use crate::trace::Traces;
-use crate::view::ViewTable;
+use handles::GenerationalHandle;
 use handles::arena::Arena;
-use handles::handle::GenerationalHandle;
+use records::error::CompositionError;
+use records::error::Outcome;
+use records::shortcut::Shortcuts;
+use records::surface::SurfaceTable;
+use records::trace::Traces;
+use records::view::ViewTable;
 
 #[repr(C)]
 pub struct CompositionLimits {
@@ -42,7 +42,7 @@ pub struct Changed {
 pub fn window_refusal(windows: Arena, window: GenerationalHandle) -> Outcome
     ensures { λ r. ⌜ r ≡ windowRefusal windows window ⌝ }
 {
-    crate::error::refuse_status(
+    records::error::refuse_status(
         handles::arena::lookup(windows, window),
         CompositionError::InvalidWindow,
         CompositionError::StaleWindow,
@@ -52,7 +52,7 @@ pub fn window_refusal(windows: Arena, window: GenerationalHandle) -> Outcome
 pub fn expect_revision(revision: u64, expected: u64) -> Outcome
     ensures { λ r. ⌜ r ≡ conflictRefusal revision expected ⌝ }
 {
-    crate::error::refuse_if(revision != expected, CompositionError::RevisionConflict)
+    records::error::refuse_if(revision != expected, CompositionError::RevisionConflict)
 }
 
 impl CompositionRegistry {

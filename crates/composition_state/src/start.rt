@@ -1,18 +1,18 @@
 // The start of a registry, and the limits that it accepts.
 ghost use mathlib.Core.Path.{_≡_};
 ghost use Rattle.composition_state.specs.Start.{anyZero, anyOverU32, anyOverPort, isUnowned, isMisconfigured, startRefusal, freshRegistry, unusableRegistry, started};
-use crate::error::CompositionError;
-use crate::error::Outcome;
 use crate::registry::Changed;
 use crate::registry::CompositionLimits;
 use crate::registry::CompositionRegistry;
-use crate::shortcut::Shortcuts;
-use crate::surface::SurfaceTable;
-use crate::trace::Traces;
-use crate::view::ViewRecord;
-use crate::view::ViewTable;
+use handles::GenerationalHandle;
 use handles::arena::Arena;
-use handles::handle::GenerationalHandle;
+use records::error::CompositionError;
+use records::error::Outcome;
+use records::shortcut::Shortcuts;
+use records::surface::SurfaceTable;
+use records::trace::Traces;
+use records::view::ViewRecord;
+use records::view::ViewTable;
 
 pub fn any_zero(limits: CompositionLimits) -> bool
     ensures { λ r. ⌜ r ≡ anyZero limits ⌝ }
@@ -92,15 +92,15 @@ fn start_refusal(
 ) -> Outcome
     ensures { λ r. ⌜ r ≡ startRefusal session «session_epoch» limits «first_generation» ⌝ }
 {
-    let owner = crate::error::refuse_if(
+    let owner = records::error::refuse_if(
         is_unowned(session, session_epoch),
         CompositionError::InvalidOwner,
     );
-    let config = crate::error::refuse_if(
+    let config = records::error::refuse_if(
         is_misconfigured(limits, first_generation),
         CompositionError::InvalidConfig,
     );
-    let port = crate::error::refuse_if(any_over_port(limits), CompositionError::PortLimit);
+    let port = records::error::refuse_if(any_over_port(limits), CompositionError::PortLimit);
     owner.then(config.then(port))
 }
 
@@ -124,7 +124,7 @@ fn fresh(
         arena,
         records: [view; 16],
     };
-    let surface = crate::surface::blank();
+    let surface = records::surface::blank();
     let surfaces = SurfaceTable {
         arena,
         records: [surface; 64],

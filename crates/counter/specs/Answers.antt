@@ -1,22 +1,31 @@
 -- What a call answers, in parts; what a call does not answer is blank.
 use mathlib.Core.List.{[]}
 use Rattle.lists.specs.Tables.{packed}
-use Rattle.handles.specs.declared.handle.OptionalHandle.the-variants as handle
+use Rattle.handles.specs.declared.OptionalHandle.{OptionalHandle}
+use Rattle.handles.specs.declared.OptionalHandle.the-variants as handle
+use Rattle.records.specs.declared.error.Outcome.{Outcome}
+use Rattle.composition_panels.specs.declared.answer.OptionalMetrics.{OptionalMetrics}
 use Rattle.composition_panels.specs.declared.answer.OptionalMetrics.the-variants as metrics
-use Rattle.composition_input.specs.declared.answer.CaptureList.{CaptureList}
+use Rattle.release_lists.specs.declared.captures.CaptureList.{CaptureList}
+use Rattle.composition_input.specs.declared.answer.OptionalInputState.{OptionalInputState}
 use Rattle.composition_input.specs.declared.answer.OptionalInputState.the-variants as state
-use Rattle.composition_input.specs.Captures.{captureList}
+use Rattle.release_lists.specs.Captures.{captureList}
 use Rattle.composition_arbitration.specs.declared.arbitrate.ArbitrationResult.{ArbitrationResult}
 use Rattle.composition_close.specs.declared.answer.CompositionShutdownReport.{CompositionShutdownReport}
 use Rattle.composition_close.specs.declared.answer.SurfaceCloseReport.{SurfaceCloseReport}
 use Rattle.composition_close.specs.Reports.{noReport as notClosed, noShutdown}
-use Rattle.input_router.specs.declared.release_list.Releases.{Releases}
-use Rattle.input_router.specs.ReleaseLists.{releases}
+use Rattle.release_lists.specs.declared.releases.Releases.{Releases}
+use Rattle.release_lists.specs.Releases.{releases}
 use Rattle.input_releases.specs.declared.answer.PlatformInputRoutingReport.{PlatformInputRoutingReport}
 use Rattle.input_releases.specs.declared.answer.RouteKind.the-variants as kind
-use Rattle.input_releases.specs.Answers.{noResult}
+use Rattle.input_releases.specs.Answers.{noResult, noReport}
+use Rattle.read_step.specs.declared.answer.Shown.{Shown}
 use Rattle.read_step.specs.declared.answer.Shown.the-variants as shown
+use Rattle.read_step.specs.declared.hits.HitNumbers.{HitNumbers}
 use Rattle.read_step.specs.Reads.{hitTable}
+use Rattle.input_events.specs.declared.error.RouterOutcome.{RouterOutcome}
+use Rattle.input_events.specs.RouterErrors.{fromComposition}
+use Rattle.counter.specs.declared.answer.Answer.{Answer}
 use Rattle.counter.specs.declared.answer.Listed.{Listed}
 use Rattle.counter.specs.declared.answer.Made.{Made}
 use Rattle.counter.specs.declared.answer.ReadOut.{ReadOut}
@@ -46,3 +55,19 @@ arbitrationAlone x = record { kind = kind.Nothing; arbitration = x; «synthesize
 
 unfoldable pub releasesAlone : Releases → PlatformInputRoutingReport
 releasesAlone l = record { kind = kind.Nothing; arbitration = noResult; «synthesized_releases» = l; «view_release» = state.None; «composition_revision» = 0 }
+
+-- the answer of a call on the registry that lists nothing
+abbrev pub registryAnswer : Outcome → OptionalHandle → OptionalMetrics → OptionalInputState → Answer
+registryAnswer o h m s = record { outcome = fromComposition o; made = record { handle = h; metrics = m; «input_state» = s }; report = noReport; listed = nothingListed; read = nothingRead }
+
+-- of a release of a device's captures, a panel's close, a shutdown
+abbrev pub listingAnswer : Outcome → Listed → Answer
+listingAnswer o l = record { outcome = fromComposition o; made = nothingMade; report = noReport; listed = l; read = nothingRead }
+
+-- of an arbitration, a routed event, a router release
+abbrev pub reportAnswer : RouterOutcome → PlatformInputRoutingReport → Answer
+reportAnswer o x = record { outcome = o; made = nothingMade; report = x; listed = nothingListed; read = nothingRead }
+
+-- of a call that alters nothing
+abbrev pub readAnswer : Outcome → Shown → HitNumbers → Answer
+readAnswer o s h = record { outcome = fromComposition o; made = nothingMade; report = noReport; listed = nothingListed; read = record { shown = s; hits = h } }

@@ -11,7 +11,6 @@ use Rattle.composition_input.specs.Captures.{releaseDevicePointerCaptures}
 use Rattle.input_events.specs.declared.error.PlatformInputError.the-variants.{Damaged}
 use Rattle.input_events.specs.RouterErrors.{fromComposition, routerRefusalIf}
 use Rattle.input_releases.specs.declared.answer.Routed.{Routed}
-use Rattle.input_releases.specs.Answers.{noReport}
 use Rattle.input_route.specs.Route.{routed}
 use Rattle.input_router.specs.declared.releases.Released.{Released}
 use Rattle.input_router.specs.declared.router.PlatformInputRouter.{PlatformInputRouter}
@@ -24,69 +23,44 @@ use Rattle.calls.specs.declared.call.Lists.{Lists}
 use Rattle.calls.specs.declared.call.RouterCall.{RouterCall}
 use Rattle.calls.specs.declared.call.RouterCall.the-variants as router
 use Rattle.registry_step.specs.declared.steps.RegistryStepped.{RegistryStepped}
+use Rattle.counter.specs.declared.answer.Answer.{Answer}
 use Rattle.counter.specs.declared.step.Counter.{Counter}
 use Rattle.counter.specs.declared.step.Stepped.{Stepped}
-use Rattle.counter.specs.Answers.{nothingMade, nothingListed, capturesListed, closeListed, shutdownListed, nothingRead, arbitrationAlone, releasesAlone}
+use Rattle.counter.specs.Answers.{capturesListed, closeListed, shutdownListed, arbitrationAlone, releasesAlone, registryAnswer, listingAnswer, reportAnswer, readAnswer}
 use Rattle.read_step.specs.declared.steps.ReadStepped.{ReadStepped}
 use Rattle.read_step.specs.Reads.{readStep}
 use Rattle.registry_step.specs.Steps.{panelStep, inputStep, shortcutStep}
 
+-- an answer, and the counter after it
+abbrev pub answered : Answer → CompositionRegistry → PlatformInputRouter → Stepped
+answered a r t = record { answer = a; counter = record { registry = r; router = t } }
+
 -- a call on the registry leaves the router as it was
 abbrev pub fromRegistry : RegistryStepped → PlatformInputRouter → Stepped
-fromRegistry s t = record {
-  answer = record {
-    outcome = fromComposition (s .outcome);
-    made = record { handle = s .handle; metrics = s .metrics; «input_state» = s .«input_state» };
-    report = noReport;
-    listed = nothingListed;
-    read = nothingRead;
-  };
-  counter = record { registry = s .registry; router = t };
-}
+fromRegistry s t = answered (registryAnswer (s .outcome) (s .handle) (s .metrics) (s .«input_state»)) (s .registry) t
 
 abbrev pub fromCaptures : CapturesReleased → PlatformInputRouter → Stepped
-fromCaptures c t = record {
-  answer = record { outcome = fromComposition (c .outcome); made = nothingMade; report = noReport; listed = capturesListed (c .released); read = nothingRead };
-  counter = record { registry = c .registry; router = t };
-}
+fromCaptures c t = answered (listingAnswer (c .outcome) (capturesListed (c .released))) (c .registry) t
 
 abbrev pub fromArbitrated : Arbitrated → PlatformInputRouter → Stepped
-fromArbitrated a t = record {
-  answer = record { outcome = fromComposition (a .outcome); made = nothingMade; report = arbitrationAlone (a .result); listed = nothingListed; read = nothingRead };
-  counter = record { registry = a .registry; router = t };
-}
+fromArbitrated a t = answered (reportAnswer (fromComposition (a .outcome)) (arbitrationAlone (a .result))) (a .registry) t
 
 abbrev pub fromClosed : SurfaceClosed → PlatformInputRouter → Stepped
-fromClosed c t = record {
-  answer = record { outcome = fromComposition (c .outcome); made = nothingMade; report = noReport; listed = closeListed (c .report); read = nothingRead };
-  counter = record { registry = c .registry; router = t };
-}
+fromClosed c t = answered (listingAnswer (c .outcome) (closeListed (c .report))) (c .registry) t
 
 abbrev pub fromShutdown : Shutdown → PlatformInputRouter → Stepped
-fromShutdown s t = record {
-  answer = record { outcome = fromComposition (s .outcome); made = nothingMade; report = noReport; listed = shutdownListed (s .report); read = nothingRead };
-  counter = record { registry = s .registry; router = t };
-}
+fromShutdown s t = answered (listingAnswer (s .outcome) (shutdownListed (s .report))) (s .registry) t
 
 abbrev pub fromRouted : Routed → Stepped
-fromRouted x = record {
-  answer = record { outcome = x .outcome; made = nothingMade; report = x .report; listed = nothingListed; read = nothingRead };
-  counter = record { registry = x .registry; router = x .router };
-}
+fromRouted x = answered (reportAnswer (x .outcome) (x .report)) (x .registry) (x .router)
 
 -- `release_surface` and `release_all` refuse 42 only, and leave the registry as it was
 abbrev pub fromReleased : CompositionRegistry → Released → Stepped
-fromReleased r x = record {
-  answer = record { outcome = routerRefusalIf (x .«is_damaged») Damaged; made = nothingMade; report = releasesAlone (x .releases); listed = nothingListed; read = nothingRead };
-  counter = record { registry = r; router = x .router };
-}
+fromReleased r x = answered (reportAnswer (routerRefusalIf (x .«is_damaged») Damaged) (releasesAlone (x .releases))) r (x .router)
 
 -- a call that alters nothing leaves both as they were
 abbrev pub fromRead : Counter → ReadStepped → Stepped
-fromRead c x = record {
-  answer = record { outcome = fromComposition (x .outcome); made = nothingMade; report = noReport; listed = nothingListed; read = record { shown = x .shown; hits = x .hits } };
-  counter = c;
-}
+fromRead c x = record { answer = readAnswer (x .outcome) (x .shown) (x .hits); counter = c }
 
 unfoldable pub closeStep : Counter → CloseCall → Stepped
 closeStep c (close.CloseSurface surface) = fromClosed (closeSurface (c .registry) surface) (c .router)

@@ -1,26 +1,23 @@
 // What a call answers. An enum holds no array, so that one struct has the answers of every call; what a call does not answer is blank.
 ghost use mathlib.Core.Path.{_≡_};
-ghost use mathlib.Core.List.{[]};
-ghost use Rattle.lists.specs.Tables.{packed};
-ghost use Rattle.composition_input.specs.Captures.{captureList};
-ghost use Rattle.counter.specs.Answers.{nothingMade, nothingListed, capturesListed, closeListed, shutdownListed, nothingRead, arbitrationAlone, releasesAlone};
+ghost use Rattle.counter.specs.Answers.{nothingMade, nothingListed, capturesListed, closeListed, shutdownListed, nothingRead, arbitrationAlone, releasesAlone, registryAnswer, listingAnswer, reportAnswer, readAnswer};
 use composition_arbitration::arbitrate::ArbitrationResult;
 use composition_close::answer::CompositionShutdownReport;
 use composition_close::answer::SurfaceCloseReport;
-use composition_input::answer::CaptureList;
 use composition_input::answer::OptionalInputState;
 use composition_panels::answer::OptionalMetrics;
-use handles::handle::GenerationalHandle;
-use handles::handle::OptionalHandle;
+use handles::OptionalHandle;
 use input_events::error::RouterOutcome;
+use input_events::error::from_composition;
 use input_releases::answer::PlatformInputRoutingReport;
 use input_releases::answer::RouteKind;
+use input_releases::answer::no_report;
 use input_releases::answer::no_result;
-use input_router::release_list::Releases;
-use maps::captures::Capture;
-use maps::keys::CompositionPointerId;
 use read_step::answer::Shown;
 use read_step::hits::HitNumbers;
+use records::error::Outcome;
+use release_lists::captures::CaptureList;
+use release_lists::releases::Releases;
 
 // The handle that a create or an attach made, the metrics that an update made, and what a suspend let go.
 pub struct Made {
@@ -63,30 +60,11 @@ impl Made {
     }
 }
 
-fn no_captures() -> CaptureList
-    ensures { λ r. ⌜ r ≡ packed captureList [] ⌝ }
-{
-    let pointer = CompositionPointerId {
-        device: 0,
-        device_generation: 0,
-        contact: 0,
-    };
-    let surface = GenerationalHandle {
-        index: 0,
-        generation: 0,
-    };
-    let none = Capture { pointer, surface };
-    CaptureList {
-        items: [none; 512],
-        len: 0,
-    }
-}
-
 impl Listed {
     pub fn nothing() -> Self
         ensures { λ r. ⌜ r ≡ nothingListed ⌝ }
     {
-        let captures = no_captures();
+        let captures = CaptureList::new();
         let closed = SurfaceCloseReport::blank();
         let shutdown = CompositionShutdownReport::blank();
         Self {
@@ -111,7 +89,7 @@ impl Listed {
     pub fn of_close(closed: SurfaceCloseReport) -> Self
         ensures { λ r. ⌜ r ≡ closeListed closed ⌝ }
     {
-        let captures = no_captures();
+        let captures = CaptureList::new();
         let shutdown = CompositionShutdownReport::blank();
         Self {
             captures,
@@ -123,7 +101,7 @@ impl Listed {
     pub fn of_shutdown(shutdown: CompositionShutdownReport) -> Self
         ensures { λ r. ⌜ r ≡ shutdownListed shutdown ⌝ }
     {
-        let captures = no_captures();
+        let captures = CaptureList::new();
         let closed = SurfaceCloseReport::blank();
         Self {
             captures,
@@ -170,5 +148,85 @@ pub fn of_releases(synthesized_releases: Releases) -> PlatformInputRoutingReport
         synthesized_releases,
         view_release: OptionalInputState::None,
         composition_revision: 0,
+    }
+}
+
+impl Answer {
+    // The answer of a call on the registry that lists nothing.
+    pub fn of_registry(
+        refusal: Outcome,
+        handle: OptionalHandle,
+        metrics: OptionalMetrics,
+        input_state: OptionalInputState,
+    ) -> Self
+        ensures { λ r. ⌜ r ≡ registryAnswer refusal handle metrics «input_state» ⌝ }
+    {
+        let outcome = from_composition(refusal);
+        let made = Made {
+            handle,
+            metrics,
+            input_state,
+        };
+        let report = no_report();
+        let listed = Listed::nothing();
+        let read = ReadOut::nothing();
+        Self {
+            outcome,
+            made,
+            report,
+            listed,
+            read,
+        }
+    }
+
+    // Of a release of a device's captures, a panel's close or a shutdown.
+    pub fn of_listing(refusal: Outcome, listed: Listed) -> Self
+        ensures { λ r. ⌜ r ≡ listingAnswer refusal listed ⌝ }
+    {
+        let outcome = from_composition(refusal);
+        let made = Made::nothing();
+        let report = no_report();
+        let read = ReadOut::nothing();
+        Self {
+            outcome,
+            made,
+            report,
+            listed,
+            read,
+        }
+    }
+
+    // Of an arbitration, a routed event or a router release.
+    pub fn of_report(outcome: RouterOutcome, report: PlatformInputRoutingReport) -> Self
+        ensures { λ r. ⌜ r ≡ reportAnswer outcome report ⌝ }
+    {
+        let made = Made::nothing();
+        let listed = Listed::nothing();
+        let read = ReadOut::nothing();
+        Self {
+            outcome,
+            made,
+            report,
+            listed,
+            read,
+        }
+    }
+
+    // Of a call that alters nothing.
+    pub fn of_read(refusal: Outcome, shown: Shown, hits: HitNumbers) -> Self
+        ensures { λ r. ⌜ r ≡ readAnswer refusal shown hits ⌝ }
+    {
+        let outcome = from_composition(refusal);
+        let made = Made::nothing();
+        let report = no_report();
+        let listed = Listed::nothing();
+        let read = ReadOut { shown, hits };
+        Self {
+            outcome,
+            made,
+            report,
+            listed,
+            read,
+        }
     }
 }

@@ -7,8 +7,6 @@ ghost use Rattle.registry_step.specs.Steps.{panelStep, inputStep, shortcutStep}
 ghost use Rattle.counter.specs.Step.{fromRegistry, fromCaptures, fromArbitrated, fromClosed, fromShutdown, fromRouted, fromReleased, fromRead, closeStep, routerStep, stepped};
 use crate::answer::Answer;
 use crate::answer::Listed;
-use crate::answer::Made;
-use crate::answer::ReadOut;
 use crate::answer::of_arbitration;
 use crate::answer::of_releases;
 use calls::arguments::ArbitrateArguments;
@@ -31,17 +29,16 @@ use composition_input::answer::CapturesReleased;
 use composition_input::captures::release_device_pointer_captures;
 use composition_shortcuts::register::Registrations;
 use composition_state::registry::CompositionRegistry;
-use composition_state::trace::Hits;
 use input_events::error::PlatformInputError;
 use input_events::error::from_composition;
 use input_events::error::refuse_if;
 use input_releases::answer::Routed;
-use input_releases::answer::no_report;
 use input_route::route::route;
 use input_router::releases::Released;
 use input_router::router::PlatformInputRouter;
 use read_step::steps::ReadStepped;
 use read_step::steps::read_step;
+use records::trace::Hits;
 use registry_step::steps::RegistryStepped;
 use registry_step::steps::input_step;
 use registry_step::steps::panel_step;
@@ -61,27 +58,12 @@ pub struct Stepped {
 fn from_registry(stepped: RegistryStepped, router: PlatformInputRouter) -> Stepped
     ensures { λ r. ⌜ r ≡ fromRegistry stepped router ⌝ }
 {
-    let registry = stepped.registry;
     let refusal = stepped.outcome;
-    let outcome = from_composition(refusal);
     let handle = stepped.handle;
     let metrics = stepped.metrics;
     let input_state = stepped.input_state;
-    let made = Made {
-        handle,
-        metrics,
-        input_state,
-    };
-    let report = no_report();
-    let listed = Listed::nothing();
-    let read = ReadOut::nothing();
-    let answer = Answer {
-        outcome,
-        made,
-        report,
-        listed,
-        read,
-    };
+    let answer = Answer::of_registry(refusal, handle, metrics, input_state);
+    let registry = stepped.registry;
     let counter = Counter { registry, router };
     Stepped { answer, counter }
 }
@@ -89,21 +71,10 @@ fn from_registry(stepped: RegistryStepped, router: PlatformInputRouter) -> Stepp
 fn from_captures(released: CapturesReleased, router: PlatformInputRouter) -> Stepped
     ensures { λ r. ⌜ r ≡ fromCaptures released router ⌝ }
 {
-    let registry = released.registry;
     let refusal = released.outcome;
-    let captures = released.released;
-    let outcome = from_composition(refusal);
-    let made = Made::nothing();
-    let report = no_report();
-    let listed = Listed::of_captures(captures);
-    let read = ReadOut::nothing();
-    let answer = Answer {
-        outcome,
-        made,
-        report,
-        listed,
-        read,
-    };
+    let listed = Listed::of_captures(released.released);
+    let answer = Answer::of_listing(refusal, listed);
+    let registry = released.registry;
     let counter = Counter { registry, router };
     Stepped { answer, counter }
 }
@@ -111,21 +82,10 @@ fn from_captures(released: CapturesReleased, router: PlatformInputRouter) -> Ste
 fn from_arbitrated(arbitrated: Arbitrated, router: PlatformInputRouter) -> Stepped
     ensures { λ r. ⌜ r ≡ fromArbitrated arbitrated router ⌝ }
 {
-    let registry = arbitrated.registry;
     let refusal = arbitrated.outcome;
-    let result = arbitrated.result;
-    let outcome = from_composition(refusal);
-    let made = Made::nothing();
-    let report = of_arbitration(result);
-    let listed = Listed::nothing();
-    let read = ReadOut::nothing();
-    let answer = Answer {
-        outcome,
-        made,
-        report,
-        listed,
-        read,
-    };
+    let report = of_arbitration(arbitrated.result);
+    let answer = Answer::of_report(from_composition(refusal), report);
+    let registry = arbitrated.registry;
     let counter = Counter { registry, router };
     Stepped { answer, counter }
 }
@@ -133,21 +93,10 @@ fn from_arbitrated(arbitrated: Arbitrated, router: PlatformInputRouter) -> Stepp
 fn from_closed(closed: SurfaceClosed, router: PlatformInputRouter) -> Stepped
     ensures { λ r. ⌜ r ≡ fromClosed closed router ⌝ }
 {
-    let registry = closed.registry;
     let refusal = closed.outcome;
-    let closing = closed.report;
-    let outcome = from_composition(refusal);
-    let made = Made::nothing();
-    let report = no_report();
-    let listed = Listed::of_close(closing);
-    let read = ReadOut::nothing();
-    let answer = Answer {
-        outcome,
-        made,
-        report,
-        listed,
-        read,
-    };
+    let listed = Listed::of_close(closed.report);
+    let answer = Answer::of_listing(refusal, listed);
+    let registry = closed.registry;
     let counter = Counter { registry, router };
     Stepped { answer, counter }
 }
@@ -155,21 +104,10 @@ fn from_closed(closed: SurfaceClosed, router: PlatformInputRouter) -> Stepped
 fn from_shutdown(done: Shutdown, router: PlatformInputRouter) -> Stepped
     ensures { λ r. ⌜ r ≡ fromShutdown done router ⌝ }
 {
-    let registry = done.registry;
     let refusal = done.outcome;
-    let closing = done.report;
-    let outcome = from_composition(refusal);
-    let made = Made::nothing();
-    let report = no_report();
-    let listed = Listed::of_shutdown(closing);
-    let read = ReadOut::nothing();
-    let answer = Answer {
-        outcome,
-        made,
-        report,
-        listed,
-        read,
-    };
+    let listed = Listed::of_shutdown(done.report);
+    let answer = Answer::of_listing(refusal, listed);
+    let registry = done.registry;
     let counter = Counter { registry, router };
     Stepped { answer, counter }
 }
@@ -177,20 +115,10 @@ fn from_shutdown(done: Shutdown, router: PlatformInputRouter) -> Stepped
 fn from_routed(routed: Routed) -> Stepped
     ensures { λ r. ⌜ r ≡ fromRouted routed ⌝ }
 {
+    let outcome = routed.outcome;
+    let answer = Answer::of_report(outcome, routed.report);
     let registry = routed.registry;
     let router = routed.router;
-    let outcome = routed.outcome;
-    let report = routed.report;
-    let made = Made::nothing();
-    let listed = Listed::nothing();
-    let read = ReadOut::nothing();
-    let answer = Answer {
-        outcome,
-        made,
-        report,
-        listed,
-        read,
-    };
     let counter = Counter { registry, router };
     Stepped { answer, counter }
 }
@@ -199,20 +127,10 @@ fn from_routed(routed: Routed) -> Stepped
 fn from_released(registry: CompositionRegistry, released: Released) -> Stepped
     ensures { λ r. ⌜ r ≡ fromReleased registry released ⌝ }
 {
-    let router = released.router;
-    let releases = released.releases;
     let outcome = refuse_if(released.is_damaged, PlatformInputError::Damaged);
-    let made = Made::nothing();
-    let report = of_releases(releases);
-    let listed = Listed::nothing();
-    let read = ReadOut::nothing();
-    let answer = Answer {
-        outcome,
-        made,
-        report,
-        listed,
-        read,
-    };
+    let report = of_releases(released.releases);
+    let answer = Answer::of_report(outcome, report);
+    let router = released.router;
     let counter = Counter { registry, router };
     Stepped { answer, counter }
 }
@@ -223,30 +141,19 @@ fn from_read(counter: Counter, done: ReadStepped) -> Stepped
 {
     let refusal = done.outcome;
     let shown = done.shown;
-    let hits = done.hits;
-    let outcome = from_composition(refusal);
-    let made = Made::nothing();
-    let report = no_report();
-    let listed = Listed::nothing();
-    let read = ReadOut { shown, hits };
-    let answer = Answer {
-        outcome,
-        made,
-        report,
-        listed,
-        read,
-    };
+    let answer = Answer::of_read(refusal, shown, done.hits);
     Stepped { answer, counter }
 }
 
 fn close_step(counter: Counter, call: CloseCall) -> Stepped
     ensures { λ r. ⌜ r ≡ closeStep counter call ⌝ }
 {
-    let registry = counter.registry;
-    let router = counter.router;
     match call {
-        CloseCall::CloseSurface(surface) => from_closed(close_surface(registry, surface), router),
-        CloseCall::Shutdown => from_shutdown(shutdown(registry), router),
+        CloseCall::CloseSurface(surface) => from_closed(
+            close_surface(counter.registry, surface),
+            counter.router,
+        ),
+        CloseCall::Shutdown => from_shutdown(shutdown(counter.registry), counter.router),
     }
 }
 
@@ -254,69 +161,60 @@ fn close_step(counter: Counter, call: CloseCall) -> Stepped
 pub fn router_step(counter: Counter, call: RouterCall) -> Stepped
     ensures { λ r. ⌜ r ≡ routerStep counter call ⌝ }
 {
-    let registry = counter.registry;
-    let router = counter.router;
     match call {
-        RouterCall::Route(event) => from_routed(route(registry, router, event)),
+        RouterCall::Route(event) => from_routed(route(counter.registry, counter.router, event)),
         RouterCall::ReleaseSurface(surface) => from_released(
-            registry,
-            router.release_surface(surface),
+            counter.registry,
+            counter.router.release_surface(surface),
         ),
-        RouterCall::ReleaseAll => from_released(registry, router.release_all()),
+        RouterCall::ReleaseAll => from_released(counter.registry, counter.router.release_all()),
     }
 }
 
 fn panel_call(counter: Counter, call: PanelCall) -> Stepped
     ensures { λ r. ⌜ r ≡ fromRegistry (panelStep (counter .registry) call) (counter .router) ⌝ }
 {
-    let registry = counter.registry;
-    let router = counter.router;
-    from_registry(panel_step(registry, call), router)
+    from_registry(panel_step(counter.registry, call), counter.router)
 }
 
 fn input_call(counter: Counter, call: InputCall) -> Stepped
     ensures { λ r. ⌜ r ≡ fromRegistry (inputStep (counter .registry) call) (counter .router) ⌝ }
 {
-    let registry = counter.registry;
-    let router = counter.router;
-    from_registry(input_step(registry, call), router)
+    from_registry(input_step(counter.registry, call), counter.router)
 }
 
 fn device_call(counter: Counter, given: DeviceArguments) -> Stepped
     ensures { λ r. ⌜ r ≡ fromCaptures (releaseDevicePointerCaptures (counter .registry) (given .device) (given .«device_generation»)) (counter .router) ⌝ }
 {
-    let registry = counter.registry;
-    let router = counter.router;
     from_captures(
-        release_device_pointer_captures(registry, given.device, given.device_generation),
-        router,
+        release_device_pointer_captures(counter.registry, given.device, given.device_generation),
+        counter.router,
     )
 }
 
 fn shortcut_call(counter: Counter, call: ShortcutCall, registrations: Registrations) -> Stepped
     ensures { λ r. ⌜ r ≡ fromRegistry (shortcutStep (counter .registry) call registrations) (counter .router) ⌝ }
 {
-    let registry = counter.registry;
-    let router = counter.router;
-    from_registry(shortcut_step(registry, call, registrations), router)
+    from_registry(
+        shortcut_step(counter.registry, call, registrations),
+        counter.router,
+    )
 }
 
 fn arbitrate_call(counter: Counter, given: ArbitrateArguments, hits: Hits) -> Stepped
     ensures { λ r. ⌜ r ≡ fromArbitrated (arbitrated (counter .registry) (given .view) (given .event) hits) (counter .router) ⌝ }
 {
-    let registry = counter.registry;
-    let router = counter.router;
-    let view = given.view;
     let event = given.event;
-    from_arbitrated(arbitrate(registry, view, event, hits), router)
+    from_arbitrated(
+        arbitrate(counter.registry, given.view, event, hits),
+        counter.router,
+    )
 }
 
 fn read_call(counter: Counter, call: ReadCall) -> Stepped
     ensures { λ r. ⌜ r ≡ fromRead counter (readStep (counter .registry) (counter .router) call) ⌝ }
 {
-    let registry = counter.registry;
-    let router = counter.router;
-    from_read(counter, read_step(registry, router, call))
+    from_read(counter, read_step(counter.registry, counter.router, call))
 }
 
 // Each group of calls has a function of its own, so that their states do not stand on the stack together.
@@ -327,14 +225,8 @@ pub fn step(counter: Counter, call: Call, lists: Lists) -> Stepped
         Call::Panel(which) => panel_call(counter, which),
         Call::Input(which) => input_call(counter, which),
         Call::ReleaseDevice(given) => device_call(counter, given),
-        Call::Shortcut(which) => {
-            let registrations = lists.registrations;
-            shortcut_call(counter, which, registrations)
-        }
-        Call::Arbitrate(given) => {
-            let hits = lists.hits;
-            arbitrate_call(counter, given, hits)
-        }
+        Call::Shortcut(which) => shortcut_call(counter, which, lists.registrations),
+        Call::Arbitrate(given) => arbitrate_call(counter, given, lists.hits),
         Call::Close(which) => close_step(counter, which),
         Call::Router(which) => router_step(counter, which),
         Call::Read(which) => read_call(counter, which),

@@ -1,8 +1,8 @@
 -- The claims about a counter as memory: reading back part by part, and the first test of each damage test.
 use mathlib.Core.Path.{_≡_, sym, ap, _∙_}
 use mathlib.Core.Bool.{false}
-use Rattle.composition_state.specs.declared.error.CompositionError.the-variants.{Damaged}
-use Rattle.composition_state.specs.declared.error.Outcome.the-variants.{Refused}
+use Rattle.records.specs.declared.error.CompositionError.the-variants.{Damaged}
+use Rattle.records.specs.declared.error.Outcome.the-variants.{Refused}
 use Rattle.composition_state.specs.Damage.{damageRefusal, isSound}
 use Rattle.input_router.specs.Damage.{isRouterSound}
 use Rattle.counter.specs.declared.step.Counter.{Counter}

@@ -7,25 +7,25 @@ use Rattle.geometry.specs.declared.metrics.ViewVisibility.the-variants.{Visible
 use Rattle.geometry.specs.declared.rect.OptionalRect.{OptionalRect}
 use Rattle.geometry.specs.declared.rect.OptionalRect.the-variants as rect
 use Rattle.geometry.specs.declared.surface.SurfaceGeometry.{SurfaceGeometry}
-use Rattle.handles.specs.declared.handle.OptionalHandle.{OptionalHandle}
-use Rattle.handles.specs.declared.handle.OptionalHandle.the-variants as handle
+use Rattle.handles.specs.declared.OptionalHandle.{OptionalHandle}
+use Rattle.handles.specs.declared.OptionalHandle.the-variants as handle
 use Rattle.maps.specs.declared.bindings.Binding.{Binding}
 use Rattle.maps.specs.declared.keys.BindingKey.{BindingKey}
 use Rattle.maps.specs.declared.keys.BindingKey.the-variants as key
 use Rattle.maps.specs.Keys.{bindingKey}
 use Rattle.composition_state.specs.declared.registry.CompositionRegistry.{CompositionRegistry}
-use Rattle.composition_state.specs.declared.shortcut.ShortcutScope.{ShortcutScope}
-use Rattle.composition_state.specs.declared.shortcut.ShortcutScope.the-variants.{View, Window, Session}
-use Rattle.composition_state.specs.declared.shortcut.SlotShortcut.{SlotShortcut}
-use Rattle.composition_state.specs.declared.surface.SurfaceInputPolicy.{SurfaceInputPolicy}
-use Rattle.composition_state.specs.declared.surface.SurfaceInputPolicy.the-variants.{Observe, Passthrough, Interactive, Exclusive}
-use Rattle.composition_state.specs.declared.surface.SurfaceKind.{SurfaceKind}
-use Rattle.composition_state.specs.declared.surface.SurfaceKind.the-variants.{Game, Ui, Diagnostics}
-use Rattle.composition_state.specs.declared.surface.SurfaceRecord.{SurfaceRecord}
-use Rattle.composition_state.specs.declared.trace.ArbitrationEvent.{ArbitrationEvent}
-use Rattle.composition_state.specs.declared.trace.ArbitrationEvent.the-variants.{Pointer, PointerStack, PointerFor, PointerStackFor, Keyboard, KeyboardFor, Gamepad, GamepadFor, Text, Shortcut, SystemShortcut}
-use Rattle.composition_state.specs.declared.trace.CompositionTrace.{CompositionTrace}
-use Rattle.composition_state.specs.declared.view.ViewRecord.{ViewRecord}
+use Rattle.records.specs.declared.shortcut.ShortcutScope.{ShortcutScope}
+use Rattle.records.specs.declared.shortcut.ShortcutScope.the-variants.{View, Window, Session}
+use Rattle.records.specs.declared.shortcut.SlotShortcut.{SlotShortcut}
+use Rattle.records.specs.declared.surface.SurfaceInputPolicy.{SurfaceInputPolicy}
+use Rattle.records.specs.declared.surface.SurfaceInputPolicy.the-variants.{Observe, Passthrough, Interactive, Exclusive}
+use Rattle.records.specs.declared.surface.SurfaceKind.{SurfaceKind}
+use Rattle.records.specs.declared.surface.SurfaceKind.the-variants.{Game, Ui, Diagnostics}
+use Rattle.records.specs.declared.surface.SurfaceRecord.{SurfaceRecord}
+use Rattle.records.specs.declared.trace.ArbitrationEvent.{ArbitrationEvent}
+use Rattle.records.specs.declared.trace.ArbitrationEvent.the-variants.{Pointer, PointerStack, PointerFor, PointerStackFor, Keyboard, KeyboardFor, Gamepad, GamepadFor, Text, Shortcut, SystemShortcut}
+use Rattle.records.specs.declared.trace.CompositionTrace.{CompositionTrace}
+use Rattle.records.specs.declared.view.ViewRecord.{ViewRecord}
 use Rattle.input_router.specs.declared.router.PlatformInputRouter.{PlatformInputRouter}
 use Rattle.counter_memory.specs.Choices.{kindNumber, kindOf, policyNumber, policyOf, scopeNumber, scopeOf, visibilityNumber, visibilityOf}
 use Rattle.counter_memory.specs.Optionals.{optionalHandleMemory, optionalHandleOf, optionalRectMemory, optionalRectOf}

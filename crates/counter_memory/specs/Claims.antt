@@ -1,8 +1,8 @@
 -- What holds of a counter as memory beyond the answers of the two functions.
 use mathlib.Core.Path.{_≡_}
 use mathlib.Core.Bool.{false}
-use Rattle.composition_state.specs.declared.error.CompositionError.the-variants.{Damaged}
-use Rattle.composition_state.specs.declared.error.Outcome.the-variants.{Refused}
+use Rattle.records.specs.declared.error.CompositionError.the-variants.{Damaged}
+use Rattle.records.specs.declared.error.Outcome.the-variants.{Refused}
 use Rattle.composition_state.specs.Damage.{damageRefusal}
 use Rattle.input_router.specs.Damage.{isRouterSound}
 use Rattle.counter.specs.declared.step.Counter.{Counter}

@@ -5,8 +5,8 @@ use Rattle.geometry.specs.declared.rect.OptionalRect.{OptionalRect}
 use Rattle.geometry.specs.declared.rect.OptionalRect.the-variants as rect
 use Rattle.geometry.specs.declared.rect.SurfaceRect.{SurfaceRect}
 use Rattle.handles.specs.Handles.{handleOf}
-use Rattle.handles.specs.declared.handle.OptionalHandle.{OptionalHandle}
-use Rattle.handles.specs.declared.handle.OptionalHandle.the-variants as handle
+use Rattle.handles.specs.declared.OptionalHandle.{OptionalHandle}
+use Rattle.handles.specs.declared.OptionalHandle.the-variants as handle
 use Rattle.counter_memory.specs.declared.optionals.OptionalHandleMemory.{OptionalHandleMemory}
 use Rattle.counter_memory.specs.declared.optionals.OptionalRectMemory.{OptionalRectMemory}
 

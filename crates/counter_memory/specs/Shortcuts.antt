@@ -1,7 +1,7 @@
 -- The registrations of system shortcuts, and their table.
 use mathlib.Core.List.{map}
-use Rattle.composition_state.specs.declared.shortcut.Shortcuts.{Shortcuts}
-use Rattle.composition_state.specs.declared.shortcut.SlotShortcut.{SlotShortcut}
+use Rattle.records.specs.declared.shortcut.Shortcuts.{Shortcuts}
+use Rattle.records.specs.declared.shortcut.SlotShortcut.{SlotShortcut}
 use Rattle.counter_memory.specs.declared.shortcuts.ShortcutsMemory.{ShortcutsMemory}
 use Rattle.counter_memory.specs.declared.shortcuts.SlotShortcutMemory.{SlotShortcutMemory}
 use Rattle.counter_memory.specs.Choices.{scopeNumber, scopeOf}

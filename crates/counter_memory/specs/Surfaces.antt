@@ -1,8 +1,8 @@
 -- Panels: their geometry, their records, and the table of these by slot.
 use mathlib.Core.List.{map}
 use Rattle.geometry.specs.declared.surface.SurfaceGeometry.{SurfaceGeometry}
-use Rattle.composition_state.specs.declared.surface.SurfaceRecord.{SurfaceRecord}
-use Rattle.composition_state.specs.declared.surface.SurfaceTable.{SurfaceTable}
+use Rattle.records.specs.declared.surface.SurfaceRecord.{SurfaceRecord}
+use Rattle.records.specs.declared.surface.SurfaceTable.{SurfaceTable}
 use Rattle.counter_memory.specs.declared.surfaces.SurfaceGeometryMemory.{SurfaceGeometryMemory}
 use Rattle.counter_memory.specs.declared.surfaces.SurfaceRecordMemory.{SurfaceRecordMemory}
 use Rattle.counter_memory.specs.declared.surfaces.SurfaceTableMemory.{SurfaceTableMemory}

@@ -1,7 +1,7 @@
 -- The last arbitrations, and their table.
 use mathlib.Core.List.{map}
-use Rattle.composition_state.specs.declared.trace.CompositionTrace.{CompositionTrace}
-use Rattle.composition_state.specs.declared.trace.Traces.{Traces}
+use Rattle.records.specs.declared.trace.CompositionTrace.{CompositionTrace}
+use Rattle.records.specs.declared.trace.Traces.{Traces}
 use Rattle.counter_memory.specs.declared.traces.CompositionTraceMemory.{CompositionTraceMemory}
 use Rattle.counter_memory.specs.declared.traces.TracesMemory.{TracesMemory}
 use Rattle.counter_memory.specs.Events.{eventMemory, eventOf}

@@ -1,8 +1,8 @@
 -- Views: their metrics, their records, and the table of these by slot.
 use mathlib.Core.List.{map}
 use Rattle.geometry.specs.declared.metrics.ViewMetrics.{ViewMetrics}
-use Rattle.composition_state.specs.declared.view.ViewRecord.{ViewRecord}
-use Rattle.composition_state.specs.declared.view.ViewTable.{ViewTable}
+use Rattle.records.specs.declared.view.ViewRecord.{ViewRecord}
+use Rattle.records.specs.declared.view.ViewTable.{ViewTable}
 use Rattle.counter_memory.specs.declared.views.ViewMetricsMemory.{ViewMetricsMemory}
 use Rattle.counter_memory.specs.declared.views.ViewRecordMemory.{ViewRecordMemory}
 use Rattle.counter_memory.specs.declared.views.ViewTableMemory.{ViewTableMemory}

@@ -2,7 +2,7 @@
 ghost use mathlib.Core.Path.{_≡_};
 ghost use mathlib.Core.List.{map};
 ghost use Rattle.counter_memory.specs.Bindings.{keyOf, bindingMemory, bindingOf, bindingsMemory, bindingsOf};
-use handles::handle::GenerationalHandle;
+use handles::GenerationalHandle;
 use maps::bindings::Binding;
 use maps::bindings::Bindings;
 use maps::keys::BindingKey;
@@ -62,10 +62,9 @@ fn binding_memory(entry: Binding) -> BindingMemory
 fn binding_of(memory: BindingMemory) -> Binding
     ensures { λ r. ⌜ r ≡ bindingOf memory ⌝ }
 {
-    let key = memory.key;
     let surface = memory.surface;
     Binding {
-        key: key_of(key),
+        key: key_of(memory.key),
         surface,
     }
 }

@@ -1,10 +1,10 @@
 // Enums without fields as numbers: their cases in declared order, from 0. A number past the last case is read as the first.
 ghost use mathlib.Core.Path.{_≡_};
 ghost use Rattle.counter_memory.specs.Choices.{kindNumber, kindOf, policyNumber, policyOf, scopeNumber, scopeOf, visibilityNumber, visibilityOf};
-use composition_state::shortcut::ShortcutScope;
-use composition_state::surface::SurfaceInputPolicy;
-use composition_state::surface::SurfaceKind;
 use geometry::metrics::ViewVisibility;
+use records::shortcut::ShortcutScope;
+use records::surface::SurfaceInputPolicy;
+use records::surface::SurfaceKind;
 
 const KINDS: [SurfaceKind; 3] = [SurfaceKind::Game, SurfaceKind::Ui, SurfaceKind::Diagnostics];
 

@@ -4,9 +4,9 @@ ghost use Rattle.counter_memory.specs.Events.{eventWith, eventMemory, ev
 use crate::optionals::OptionalHandleMemory;
 use crate::optionals::optional_handle_memory;
 use crate::optionals::optional_handle_of;
-use composition_state::trace::ArbitrationEvent;
-use handles::handle::OptionalHandle;
+use handles::OptionalHandle;
 use maps::keys::CompositionPointerId;
+use records::trace::ArbitrationEvent;
 
 #[repr(C)]
 pub struct ArbitrationEventMemory {
@@ -92,12 +92,10 @@ fn event_from(
 pub fn event_of(memory: ArbitrationEventMemory) -> ArbitrationEvent
     ensures { λ r. ⌜ r ≡ eventOf memory ⌝ }
 {
-    let pointer = memory.pointer;
-    let target = memory.target;
     event_from(
         memory.kind,
-        pointer,
-        optional_handle_of(target),
+        memory.pointer,
+        optional_handle_of(memory.target),
         memory.class_mask,
     )
 }

@@ -18,11 +18,9 @@ pub struct CounterMemory {
 pub fn memory_of(counter: Counter) -> CounterMemory
     ensures { λ r. ⌜ r ≡ memoryOf counter ⌝ }
 {
-    let registry = counter.registry;
-    let router = counter.router;
     CounterMemory {
-        registry: registry_memory(registry),
-        router: router_memory(router),
+        registry: registry_memory(counter.registry),
+        router: router_memory(counter.router),
     }
 }
 
@@ -30,10 +28,8 @@ pub fn memory_of(counter: Counter) -> CounterMemory
 pub fn counter_of(memory: CounterMemory) -> Counter
     ensures { λ r. ⌜ r ≡ counterOf memory ⌝ }
 {
-    let registry = memory.registry;
-    let router = memory.router;
     Counter {
-        registry: registry_of(registry),
-        router: router_of(router),
+        registry: registry_of(memory.registry),
+        router: router_of(memory.router),
     }
 }

@@ -3,8 +3,8 @@ ghost use mathlib.Core.Path.{_≡_};
 ghost use Rattle.counter_memory.specs.Optionals.{optionalHandleMemory, optionalHandleOf, optionalRectMemory, optionalRectOf};
 use geometry::rect::OptionalRect;
 use geometry::rect::SurfaceRect;
-use handles::handle::GenerationalHandle;
-use handles::handle::OptionalHandle;
+use handles::GenerationalHandle;
+use handles::OptionalHandle;
 
 #[repr(C)]
 pub struct OptionalHandleMemory {

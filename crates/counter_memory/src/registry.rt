@@ -15,8 +15,8 @@ use crate::views::views_memory;
 use crate::views::views_of;
 use composition_state::registry::CompositionLimits;
 use composition_state::registry::CompositionRegistry;
+use handles::GenerationalHandle;
 use handles::arena::Arena;
-use handles::handle::GenerationalHandle;
 
 #[repr(C)]
 pub struct RegistryMemory {
@@ -38,10 +38,6 @@ pub fn registry_memory(registry: CompositionRegistry) -> RegistryMemory
     let session = registry.session;
     let limits = registry.limits;
     let windows = registry.windows;
-    let views = registry.views;
-    let surfaces = registry.surfaces;
-    let shortcuts = registry.shortcuts;
-    let traces = registry.traces;
     RegistryMemory {
         session,
         session_epoch: registry.session_epoch,
@@ -49,10 +45,10 @@ pub fn registry_memory(registry: CompositionRegistry) -> RegistryMemory
         first_generation: registry.first_generation,
         revision: registry.revision,
         windows,
-        views: views_memory(views),
-        surfaces: surfaces_memory(surfaces),
-        shortcuts: shortcuts_memory(shortcuts),
-        traces: traces_memory(traces),
+        views: views_memory(registry.views),
+        surfaces: surfaces_memory(registry.surfaces),
+        shortcuts: shortcuts_memory(registry.shortcuts),
+        traces: traces_memory(registry.traces),
     }
 }
 
@@ -62,10 +58,6 @@ pub fn registry_of(memory: RegistryMemory) -> CompositionRegistry
     let session = memory.session;
     let limits = memory.limits;
     let windows = memory.windows;
-    let views = memory.views;
-    let surfaces = memory.surfaces;
-    let shortcuts = memory.shortcuts;
-    let traces = memory.traces;
     CompositionRegistry {
         session,
         session_epoch: memory.session_epoch,
@@ -73,9 +65,9 @@ pub fn registry_of(memory: RegistryMemory) -> CompositionRegistry
         first_generation: memory.first_generation,
         revision: memory.revision,
         windows,
-        views: views_of(views),
-        surfaces: surfaces_of(surfaces),
-        shortcuts: shortcuts_of(shortcuts),
-        traces: traces_of(traces),
+        views: views_of(memory.views),
+        surfaces: surfaces_of(memory.surfaces),
+        shortcuts: shortcuts_of(memory.shortcuts),
+        traces: traces_of(memory.traces),
     }
 }

@@ -19,12 +19,11 @@ pub fn router_memory(router: PlatformInputRouter) -> RouterMemory
     ensures { λ r. ⌜ r ≡ routerMemory router ⌝ }
 {
     let device_sequences = router.device_sequences;
-    let bindings = router.bindings;
     RouterMemory {
         max_active_bindings: router.max_active_bindings,
         last_timestamp_micros: router.last_timestamp_micros,
         device_sequences,
-        bindings: bindings_memory(bindings),
+        bindings: bindings_memory(router.bindings),
     }
 }
 
@@ -32,11 +31,10 @@ pub fn router_of(memory: RouterMemory) -> PlatformInputRouter
     ensures { λ r. ⌜ r ≡ routerOf memory ⌝ }
 {
     let device_sequences = memory.device_sequences;
-    let bindings = memory.bindings;
     PlatformInputRouter {
         max_active_bindings: memory.max_active_bindings,
         last_timestamp_micros: memory.last_timestamp_micros,
         device_sequences,
-        bindings: bindings_of(bindings),
+        bindings: bindings_of(memory.bindings),
     }
 }

@@ -4,9 +4,9 @@ ghost use mathlib.Core.List.{map};
 ghost use Rattle.counter_memory.specs.Shortcuts.{shortcutMemory, shortcutOf, shortcutsMemory, shortcutsOf};
 use crate::choices::scope_number;
 use crate::choices::scope_of;
-use composition_state::shortcut::Shortcuts;
-use composition_state::shortcut::SlotShortcut;
-use composition_state::shortcut::SurfaceShortcutRegistration;
+use records::shortcut::Shortcuts;
+use records::shortcut::SlotShortcut;
+use records::shortcut::SurfaceShortcutRegistration;
 
 // A registration's fields, beside the slot of its panel.
 #[repr(C)]

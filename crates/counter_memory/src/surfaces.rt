@@ -9,13 +9,13 @@ use crate::choices::policy_of;
 use crate::optionals::OptionalRectMemory;
 use crate::optionals::optional_rect_memory;
 use crate::optionals::optional_rect_of;
-use composition_state::surface::SurfaceDescriptor;
-use composition_state::surface::SurfaceRecord;
-use composition_state::surface::SurfaceTable;
 use geometry::surface::SurfaceGeometry;
 use geometry::transform::SurfaceTransform;
+use handles::GenerationalHandle;
 use handles::arena::Arena;
-use handles::handle::GenerationalHandle;
+use records::surface::SurfaceDescriptor;
+use records::surface::SurfaceRecord;
+use records::surface::SurfaceTable;
 
 #[repr(C)]
 pub struct SurfaceGeometryMemory {
@@ -61,12 +61,10 @@ fn geometry_memory(geometry: SurfaceGeometry) -> SurfaceGeometryMemory
 fn geometry_of(memory: SurfaceGeometryMemory) -> SurfaceGeometry
     ensures { λ r. ⌜ r ≡ geometryOf memory ⌝ }
 {
-    let bounds = memory.bounds;
-    let clip = memory.clip;
     let transform = memory.transform;
     SurfaceGeometry {
-        bounds: optional_rect_of(bounds),
-        clip: optional_rect_of(clip),
+        bounds: optional_rect_of(memory.bounds),
+        clip: optional_rect_of(memory.clip),
         transform,
         opacity_q16: memory.opacity_q16,
         hit_test_enabled: memory.hit_test_enabled,
@@ -80,14 +78,13 @@ fn surface_memory(surface: SurfaceRecord) -> SurfaceRecordMemory
     let view = descriptor.view;
     let kind = descriptor.kind;
     let input = descriptor.input;
-    let geometry = descriptor.geometry;
     SurfaceRecordMemory {
         view,
         kind: kind_number(kind),
         z_order: descriptor.z_order,
         input: policy_number(input),
         accepts_text: descriptor.accepts_text,
-        geometry: geometry_memory(geometry),
+        geometry: geometry_memory(descriptor.geometry),
     }
 }
 
@@ -95,14 +92,13 @@ fn surface_of(memory: SurfaceRecordMemory) -> SurfaceRecord
     ensures { λ r. ⌜ r ≡ surfaceOf memory ⌝ }
 {
     let view = memory.view;
-    let geometry = memory.geometry;
     let descriptor = SurfaceDescriptor {
         view,
         kind: kind_of(memory.kind),
         z_order: memory.z_order,
         input: policy_of(memory.input),
         accepts_text: memory.accepts_text,
-        geometry: geometry_of(geometry),
+        geometry: geometry_of(memory.geometry),
     };
     SurfaceRecord { descriptor }
 }

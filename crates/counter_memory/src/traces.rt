@@ -8,11 +8,11 @@ use crate::events::event_of;
 use crate::optionals::OptionalHandleMemory;
 use crate::optionals::optional_handle_memory;
 use crate::optionals::optional_handle_of;
-use composition_state::trace::CompositionTrace;
-use composition_state::trace::Deliveries;
-use composition_state::trace::Hits;
-use composition_state::trace::Traces;
-use handles::handle::GenerationalHandle;
+use handles::GenerationalHandle;
+use records::trace::CompositionTrace;
+use records::trace::Deliveries;
+use records::trace::Hits;
+use records::trace::Traces;
 
 #[repr(C)]
 pub struct CompositionTraceMemory {
@@ -52,17 +52,15 @@ fn trace_of(memory: CompositionTraceMemory) -> CompositionTrace
     ensures { λ r. ⌜ r ≡ traceOf memory ⌝ }
 {
     let view = memory.view;
-    let event = memory.event;
     let hits = memory.hits;
     let deliveries = memory.deliveries;
-    let consumed_by = memory.consumed_by;
     CompositionTrace {
         revision: memory.revision,
         view,
-        event: event_of(event),
+        event: event_of(memory.event),
         hits,
         deliveries,
-        consumed_by: optional_handle_of(consumed_by),
+        consumed_by: optional_handle_of(memory.consumed_by),
     }
 }
 

@@ -7,14 +7,14 @@ use crate::choices::visibility_of;
 use crate::optionals::OptionalHandleMemory;
 use crate::optionals::optional_handle_memory;
 use crate::optionals::optional_handle_of;
-use composition_state::layers::Layers;
-use composition_state::view::ViewRecord;
-use composition_state::view::ViewTable;
 use geometry::metrics::ViewInsets;
 use geometry::metrics::ViewMetrics;
+use handles::GenerationalHandle;
 use handles::arena::Arena;
-use handles::handle::GenerationalHandle;
 use maps::captures::PointerCaptures;
+use records::layers::Layers;
+use records::view::ViewRecord;
+use records::view::ViewTable;
 
 #[repr(C)]
 pub struct ViewMetricsMemory {
@@ -88,7 +88,6 @@ fn view_memory(view: ViewRecord) -> ViewRecordMemory
     ensures { λ r. ⌜ r ≡ viewMemory view ⌝ }
 {
     let window = view.window;
-    let metrics = view.metrics;
     let surfaces = view.surfaces;
     let focus = view.focus;
     let pointer_capture = view.pointer_capture;
@@ -96,7 +95,7 @@ fn view_memory(view: ViewRecord) -> ViewRecordMemory
     let ime = view.ime;
     ViewRecordMemory {
         window,
-        metrics: metrics_memory(metrics),
+        metrics: metrics_memory(view.metrics),
         surfaces,
         focus: optional_handle_memory(focus),
         pointer_capture: optional_handle_memory(pointer_capture),
@@ -109,20 +108,16 @@ fn view_of(memory: ViewRecordMemory) -> ViewRecord
     ensures { λ r. ⌜ r ≡ viewOf memory ⌝ }
 {
     let window = memory.window;
-    let metrics = memory.metrics;
     let surfaces = memory.surfaces;
-    let focus = memory.focus;
-    let pointer_capture = memory.pointer_capture;
     let pointer_captures = memory.pointer_captures;
-    let ime = memory.ime;
     ViewRecord {
         window,
-        metrics: metrics_of(metrics),
+        metrics: metrics_of(memory.metrics),
         surfaces,
-        focus: optional_handle_of(focus),
-        pointer_capture: optional_handle_of(pointer_capture),
+        focus: optional_handle_of(memory.focus),
+        pointer_capture: optional_handle_of(memory.pointer_capture),
         pointer_captures,
-        ime: optional_handle_of(ime),
+        ime: optional_handle_of(memory.ime),
     }
 }
 

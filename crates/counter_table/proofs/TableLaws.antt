@@ -5,20 +5,20 @@ use borrow.Author.Tests.{eq-eqb}
 use Rattle.lists.proofs.ListLaws.{clash}
 use Rattle.geometry.proofs.Claims as geometry
 use Rattle.handles.specs.declared.arena.SlotStatus.the-variants.{Live}
-use Rattle.handles.specs.declared.handle.GenerationalHandle.{GenerationalHandle}
-use Rattle.handles.specs.declared.handle.OptionalHandle.the-variants.{None, Some}
+use Rattle.handles.specs.declared.GenerationalHandle.{GenerationalHandle}
+use Rattle.handles.specs.declared.OptionalHandle.the-variants.{None, Some}
 use Rattle.handles.specs.Handles.{sameHandle}
 use Rattle.maps.specs.declared.keys.CompositionPointerId.{CompositionPointerId}
-use Rattle.composition_state.specs.declared.error.CompositionError.the-variants.{InvalidView, StaleView}
-use Rattle.composition_state.specs.declared.error.Outcome.{Outcome}
-use Rattle.composition_state.specs.declared.error.Outcome.the-variants.{Accepted, Refused}
+use Rattle.records.specs.declared.error.CompositionError.the-variants.{InvalidView, StaleView}
+use Rattle.records.specs.declared.error.Outcome.{Outcome}
+use Rattle.records.specs.declared.error.Outcome.the-variants.{Accepted, Refused}
 use Rattle.composition_state.specs.declared.registry.CompositionRegistry.{CompositionRegistry}
-use Rattle.composition_state.specs.declared.view.ViewRecord.{ViewRecord}
+use Rattle.records.specs.declared.view.ViewRecord.{ViewRecord}
 use Rattle.composition_state.specs.Damage.{isSound, damageRefusal}
-use Rattle.composition_state.specs.Errors.{numberOf}
-use Rattle.composition_state.specs.Layers.{isLive}
-use Rattle.composition_state.specs.Surfaces.{surfaceStatus, surfaceRefusal}
-use Rattle.composition_state.specs.Views.{viewAt, viewStatus}
+use Rattle.records.specs.Errors.{numberOf}
+use Rattle.records.specs.Layers.{isLive}
+use Rattle.records.specs.Surfaces.{surfaceStatus, surfaceRefusal}
+use Rattle.records.specs.Views.{viewAt, viewStatus}
 use Rattle.composition_state.proofs.SettleLaws.{then-last, accepted-is}
 use Rattle.composition_input.specs.Captures.{primary}
 use Rattle.composition_input.specs.Focus.{ownView, setFocus}

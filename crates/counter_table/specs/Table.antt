@@ -1,5 +1,4 @@
 -- Document 01, Counter table: its nine lines as one statement about the definitions that the contracts cite.
-use Prim.Native.Nat.{ℕ}
 use mathlib.Core.Path.{_≡_}
 use mathlib.Core.Bool.{true, false}
 use mathlib.Core.List.{[], _∷_}
@@ -12,19 +11,19 @@ use Rattle.geometry.specs.Rect.{contains}
 use Rattle.geometry.specs.Surface.{isValidGeometry}
 use Rattle.geometry.specs.Transform.{inversePoint}
 use Rattle.handles.specs.declared.arena.SlotStatus.the-variants.{Live}
-use Rattle.handles.specs.declared.handle.GenerationalHandle.{GenerationalHandle}
-use Rattle.handles.specs.declared.handle.OptionalHandle.the-variants.{None, Some}
+use Rattle.handles.specs.declared.GenerationalHandle.{GenerationalHandle}
+use Rattle.handles.specs.declared.OptionalHandle.the-variants.{None, Some}
 use Rattle.handles.specs.Handles.{sameHandle}
 use Rattle.maps.specs.declared.keys.CompositionPointerId.{CompositionPointerId}
-use Rattle.composition_state.specs.declared.error.Outcome.the-variants.{Accepted}
+use Rattle.records.specs.declared.error.Outcome.the-variants.{Accepted}
 use Rattle.composition_state.specs.declared.registry.CompositionRegistry.{CompositionRegistry}
-use Rattle.composition_state.specs.declared.shortcut.SurfaceShortcutRegistration.{SurfaceShortcutRegistration}
-use Rattle.composition_state.specs.declared.view.ViewRecord.{ViewRecord}
+use Rattle.records.specs.declared.shortcut.SurfaceShortcutRegistration.{SurfaceShortcutRegistration}
+use Rattle.records.specs.declared.view.ViewRecord.{ViewRecord}
 use Rattle.composition_state.specs.Damage.{isSound}
-use Rattle.composition_state.specs.Errors.{numberOf}
-use Rattle.composition_state.specs.Layers.{isLive}
-use Rattle.composition_state.specs.Surfaces.{surfaceStatus}
-use Rattle.composition_state.specs.Views.{viewAt, viewStatus}
+use Rattle.records.specs.Errors.{numberOf}
+use Rattle.records.specs.Layers.{isLive}
+use Rattle.records.specs.Surfaces.{surfaceStatus}
+use Rattle.records.specs.Views.{viewAt, viewStatus}
 use Rattle.composition_input.specs.Captures.{primary}
 use Rattle.composition_input.specs.Focus.{ownView, setFocus}
 use Rattle.composition_shortcuts.specs.declared.register.Registrations.{Registrations}

@@ -51,10 +51,9 @@ fn ask_window_counts(
     freed: usize,
     live: usize,
 ) {
-    let a = registry.windows;
     crate::ask(
         name,
-        registry.with_windows(with_counts(a, used, freed, live)),
+        registry.with_windows(with_counts(registry.windows, used, freed, live)),
     );
 }
 
@@ -65,16 +64,17 @@ fn ask_window_free(
     second: u32,
     freed: usize,
 ) {
-    let a = registry.windows;
     crate::ask(
         name,
-        registry.with_windows(with_free(a, first, second, freed)),
+        registry.with_windows(with_free(registry.windows, first, second, freed)),
     );
 }
 
 fn ask_window_generation(name: &[u8], registry: CompositionRegistry) {
-    let a = registry.windows;
-    crate::ask(name, registry.with_windows(with_first_slot(a, 0, true)));
+    crate::ask(
+        name,
+        registry.with_windows(with_first_slot(registry.windows, 0, true)),
+    );
 }
 
 fn ask_windows(registry: CompositionRegistry) {
@@ -95,20 +95,24 @@ fn ask_view_counts(
     freed: usize,
     live: usize,
 ) {
-    let views = registry.views;
-    let a = views.arena;
     crate::ask(
         name,
-        registry.with_views(views.with_arena(with_counts(a, used, freed, live))),
+        registry.with_views(
+            registry
+                .views
+                .with_arena(with_counts(registry.views.arena, used, freed, live)),
+        ),
     );
 }
 
 fn ask_view_generation(name: &[u8], registry: CompositionRegistry) {
-    let views = registry.views;
-    let a = views.arena;
     crate::ask(
         name,
-        registry.with_views(views.with_arena(with_first_slot(a, 0, true))),
+        registry.with_views(
+            registry
+                .views
+                .with_arena(with_first_slot(registry.views.arena, 0, true)),
+        ),
     );
 }
 
@@ -126,29 +130,35 @@ fn ask_panel_counts(
     freed: usize,
     live: usize,
 ) {
-    let surfaces = registry.surfaces;
-    let a = surfaces.arena;
     crate::ask(
         name,
-        registry.with_surfaces(surfaces.with_arena(with_counts(a, used, freed, live))),
+        registry.with_surfaces(
+            registry
+                .surfaces
+                .with_arena(with_counts(registry.surfaces.arena, used, freed, live)),
+        ),
     );
 }
 
 fn ask_panel_generation(name: &[u8], registry: CompositionRegistry) {
-    let surfaces = registry.surfaces;
-    let a = surfaces.arena;
     crate::ask(
         name,
-        registry.with_surfaces(surfaces.with_arena(with_first_slot(a, 0, true))),
+        registry.with_surfaces(
+            registry
+                .surfaces
+                .with_arena(with_first_slot(registry.surfaces.arena, 0, true)),
+        ),
     );
 }
 
 fn ask_panel_free(name: &[u8], registry: CompositionRegistry) {
-    let surfaces = registry.surfaces;
-    let a = surfaces.arena;
     crate::ask(
         name,
-        registry.with_surfaces(surfaces.with_arena(with_free(a, 0, 0, 1))),
+        registry.with_surfaces(
+            registry
+                .surfaces
+                .with_arena(with_free(registry.surfaces.arena, 0, 0, 1)),
+        ),
     );
 }
 

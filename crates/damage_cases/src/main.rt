@@ -3,27 +3,22 @@ mod arenas;
 mod odd;
 mod views;
 
-use composition_state::error::Outcome;
 use composition_state::registry::CompositionLimits;
 use composition_state::registry::CompositionRegistry;
-use composition_state::surface::SurfaceDescriptor;
-use composition_state::surface::SurfaceInputPolicy;
-use composition_state::surface::SurfaceKind;
 use geometry::surface::SurfaceGeometry;
-use handles::handle::GenerationalHandle;
-use handles::handle::OptionalHandle;
+use handles::GenerationalHandle;
 use libc::STDOUT_FILENO;
+use records::error::Outcome;
+use records::surface::SurfaceDescriptor;
+use records::surface::SurfaceInputPolicy;
+use records::surface::SurfaceKind;
 
 // A name, a space, the answer's number and a line feed.
 pub fn report(name: &[u8], outcome: Outcome) {
     let mut line = [0u8; 80];
     let named = answer::put::put_bytes(&mut line, 0, name);
     let spaced = answer::put::put_byte(&mut line, named, b' ');
-    let numbered = answer::put::put_u64(
-        &mut line,
-        spaced,
-        composition_state::error::number(outcome),
-    );
+    let numbered = answer::put::put_u64(&mut line, spaced, records::error::number(outcome));
     let ended = answer::put::put_byte(&mut line, numbered, b'\n');
     write_front(&line, ended);
 }
@@ -96,17 +91,16 @@ fn three_views(registry: CompositionRegistry) -> CompositionRegistry {
 fn captured(registry: CompositionRegistry) -> CompositionRegistry {
     let revision = registry.revision;
     let primary = composition_input::captures::capture_pointer(registry, first(1), revision);
-    let next = primary.registry;
     let pointer = maps::keys::CompositionPointerId {
         device: 7,
         device_generation: 1,
         contact: 9,
     };
     let second = composition_input::captures::capture_pointer_for(
-        next,
+        primary.registry,
         pointer,
         first(1),
-        next.revision,
+        primary.registry.revision,
     );
     second.registry
 }

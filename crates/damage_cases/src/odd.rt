@@ -1,19 +1,18 @@
 // Registries that no list of calls leaves, but that are not damaged: each call answers as the Rust would.
-use composition_state::layers::Layers;
 use composition_state::registry::CompositionRegistry;
-use composition_state::surface::SurfaceRecord;
+use handles::GenerationalHandle;
+use handles::OptionalHandle;
 use handles::arena::Arena;
 use handles::arena::Slot;
-use handles::handle::GenerationalHandle;
-use handles::handle::OptionalHandle;
+use records::layers::Layers;
+use records::surface::SurfaceRecord;
 
 // Panel 2 taken out of its view's layers.
 fn outside_layers(registry: CompositionRegistry) -> CompositionRegistry {
-    let views = registry.views;
     let view = crate::first(2);
-    let record = views.record(view);
+    let record = registry.views.record(view);
     let none = Layers::new();
-    registry.with_views(views.with_record(view, record.with_surfaces(none)))
+    registry.with_views(registry.views.with_record(view, record.with_surfaces(none)))
 }
 
 fn owned_by(record: SurfaceRecord, view: GenerationalHandle) -> SurfaceRecord {
@@ -25,10 +24,13 @@ fn owned_by(record: SurfaceRecord, view: GenerationalHandle) -> SurfaceRecord {
 // Panel 2, outside all layers, names a view that is not live.
 fn orphaned(registry: CompositionRegistry, view: GenerationalHandle) -> CompositionRegistry {
     let outside = outside_layers(registry);
-    let surfaces = outside.surfaces;
     let surface = crate::first(2);
-    let record = surfaces.record(surface);
-    outside.with_surfaces(surfaces.with_record(surface, owned_by(record, view)))
+    let record = outside.surfaces.record(surface);
+    outside.with_surfaces(
+        outside
+            .surfaces
+            .with_record(surface, owned_by(record, view)),
+    )
 }
 
 fn with_garbage(a: Arena) -> Arena {
@@ -59,10 +61,9 @@ fn ask_capture(name: &[u8], registry: CompositionRegistry) {
 }
 
 fn ask_garbage(registry: CompositionRegistry) {
-    let windows = registry.windows;
     crate::ask(
         b"odd: garbage in unused places",
-        registry.with_windows(with_garbage(windows)),
+        registry.with_windows(with_garbage(registry.windows)),
     );
 }
 

@@ -1,19 +1,17 @@
 // A view whose window, layers or captures are damaged.
-use composition_state::layers::Layers;
 use composition_state::registry::CompositionRegistry;
-use composition_state::view::ViewRecord;
-use handles::handle::GenerationalHandle;
+use handles::GenerationalHandle;
 use maps::captures::PointerCaptures;
+use records::layers::Layers;
+use records::view::ViewRecord;
 
 fn view_0(registry: CompositionRegistry) -> ViewRecord {
-    let views = registry.views;
-    views.record(crate::first(0))
+    registry.views.record(crate::first(0))
 }
 
 // View 0 with another record.
 fn with_view(registry: CompositionRegistry, record: ViewRecord) -> CompositionRegistry {
-    let views = registry.views;
-    registry.with_views(views.with_record(crate::first(0), record))
+    registry.with_views(registry.views.with_record(crate::first(0), record))
 }
 
 fn with_window(v: ViewRecord, window: GenerationalHandle) -> ViewRecord {
@@ -50,26 +48,29 @@ fn with_equal_keys(captures: PointerCaptures) -> PointerCaptures {
 
 fn ask_with_layers(name: &[u8], registry: CompositionRegistry, low: u32, high: u32, len: usize) {
     let v = view_0(registry);
-    let layers = v.surfaces;
-    let changed = with_layers(layers, crate::first(low), crate::first(high), len);
+    let changed = with_layers(v.surfaces, crate::first(low), crate::first(high), len);
     crate::ask(name, with_view(registry, v.with_surfaces(changed)));
 }
 
 fn ask_with_len(name: &[u8], registry: CompositionRegistry, len: usize) {
     let v = view_0(registry);
-    let captures = v.pointer_captures;
     crate::ask(
         name,
-        with_view(registry, v.with_pointer_captures(with_len(captures, len))),
+        with_view(
+            registry,
+            v.with_pointer_captures(with_len(v.pointer_captures, len)),
+        ),
     );
 }
 
 fn ask_equal_keys(name: &[u8], registry: CompositionRegistry) {
     let v = view_0(registry);
-    let captures = v.pointer_captures;
     crate::ask(
         name,
-        with_view(registry, v.with_pointer_captures(with_equal_keys(captures))),
+        with_view(
+            registry,
+            v.with_pointer_captures(with_equal_keys(v.pointer_captures)),
+        ),
     );
 }
 

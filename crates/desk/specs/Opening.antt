@@ -5,16 +5,16 @@ use mathlib.Core.List.{[]}
 use lib.IntN.{ℤ, pos}
 use Rattle.lists.specs.Tables.{packed}
 use Rattle.handles.specs.Handles.{handleOf, invalidHandle}
-use Rattle.handles.specs.declared.handle.GenerationalHandle.{GenerationalHandle}
-use Rattle.handles.specs.declared.handle.OptionalHandle.{OptionalHandle}
-use Rattle.handles.specs.declared.handle.OptionalHandle.the-variants.{None, Some}
+use Rattle.handles.specs.declared.GenerationalHandle.{GenerationalHandle}
+use Rattle.handles.specs.declared.OptionalHandle.{OptionalHandle}
+use Rattle.handles.specs.declared.OptionalHandle.the-variants.{None, Some}
 use Rattle.geometry.specs.Surface.{defaultGeometry}
 use Rattle.composition_state.specs.declared.registry.CompositionLimits.{CompositionLimits}
-use Rattle.composition_state.specs.declared.surface.SurfaceInputPolicy.{SurfaceInputPolicy}
-use Rattle.composition_state.specs.declared.surface.SurfaceInputPolicy.the-variants.{Observe, Interactive, Exclusive}
-use Rattle.composition_state.specs.declared.surface.SurfaceKind.the-variants.{Ui}
+use Rattle.records.specs.declared.surface.SurfaceInputPolicy.{SurfaceInputPolicy}
+use Rattle.records.specs.declared.surface.SurfaceInputPolicy.the-variants.{Observe, Interactive, Exclusive}
+use Rattle.records.specs.declared.surface.SurfaceKind.the-variants.{Ui}
 use Rattle.composition_state.specs.Start.{started}
-use Rattle.composition_state.specs.Traces.{hits}
+use Rattle.records.specs.Traces.{hits}
 use Rattle.composition_shortcuts.specs.Register.{registrations}
 use Rattle.input_router.specs.Router.{started as routerStarted}
 use Rattle.calls.specs.declared.call.Call.the-variants.{Panel, Read}

@@ -8,20 +8,20 @@ use calls::call::ReadCall;
 use composition_shortcuts::register::Registrations;
 use composition_state::registry::CompositionLimits;
 use composition_state::registry::CompositionRegistry;
-use composition_state::shortcut::ShortcutScope;
-use composition_state::shortcut::SurfaceShortcutRegistration;
-use composition_state::surface::SurfaceDescriptor;
-use composition_state::surface::SurfaceInputPolicy;
-use composition_state::surface::SurfaceKind;
-use composition_state::trace::Hits;
 use counter::answer::Answer;
 use counter::step::Counter;
 use counter::step::step;
 use geometry::surface::SurfaceGeometry;
-use handles::handle::GenerationalHandle;
-use handles::handle::OptionalHandle;
+use handles::GenerationalHandle;
+use handles::OptionalHandle;
 use input_router::router::PlatformInputRouter;
 use read_step::answer::Shown;
+use records::shortcut::ShortcutScope;
+use records::shortcut::SurfaceShortcutRegistration;
+use records::surface::SurfaceDescriptor;
+use records::surface::SurfaceInputPolicy;
+use records::surface::SurfaceKind;
+use records::trace::Hits;
 
 // What the steps name: the window and the view of an event, the revision of the view's metrics, and the panel that is closed.
 pub struct Places {

@@ -9,7 +9,7 @@ use borrow.Author.Tests.{ltb-true, eqb-false, eq-eqb, ne-eqb, not-true}
 use Rattle.lists.specs.Lists.{all}
 use Rattle.lists.proofs.ListLaws.{by-test, clash, and-left, and-right, all-take}
 use Rattle.lists.proofs.BelowLaws.{count-flip}
-use Rattle.handles.specs.declared.handle.GenerationalHandle.{GenerationalHandle}
+use Rattle.handles.specs.declared.GenerationalHandle.{GenerationalHandle}
 use Rattle.handles.specs.declared.arena.Slot.{Slot}
 use Rattle.handles.specs.declared.arena.Arena.{Arena}
 use Rattle.handles.specs.Handles.{handleOf}

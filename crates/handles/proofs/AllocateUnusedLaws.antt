@@ -10,7 +10,7 @@ use borrow.Author.Tests.{ltb-true, ltb-false, lt-ltb, le-ltb, ne-eqb}
 use Rattle.lists.specs.Lists.{all}
 use Rattle.lists.proofs.ListLaws.{by-test}
 use Rattle.lists.proofs.BelowLaws.{count-same, count-more}
-use Rattle.handles.specs.declared.handle.GenerationalHandle.{GenerationalHandle}
+use Rattle.handles.specs.declared.GenerationalHandle.{GenerationalHandle}
 use Rattle.handles.specs.declared.arena.Slot.{Slot}
 use Rattle.handles.specs.declared.arena.Arena.{Arena}
 use Rattle.handles.specs.Handles.{handleOf}

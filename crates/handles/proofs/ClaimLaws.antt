@@ -9,7 +9,7 @@ use lib.Dec.{ltb}
 use borrow.Author.Tests.{ltb-true, ltb-false, lt-ltb, le-leb, eq-eqb, eqb-false, not-true}
 use Rattle.lists.proofs.ListLaws.{by-test, clash, and-both}
 use Rattle.lists.proofs.BelowLaws.{all-at, count-none, count-some}
-use Rattle.handles.specs.declared.handle.GenerationalHandle.{GenerationalHandle}
+use Rattle.handles.specs.declared.GenerationalHandle.{GenerationalHandle}
 use Rattle.handles.specs.declared.arena.Arena.{Arena}
 use Rattle.handles.specs.declared.arena.Allocation.{Allocation}
 use Rattle.handles.specs.declared.arena.ReleaseOutcome.the-variants.{Released}

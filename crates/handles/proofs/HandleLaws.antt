@@ -3,7 +3,7 @@ use Prim.Native.Nat.{ℕ}
 use mathlib.Core.Path.{_≡_, ap}
 use Rattle.lists.specs.Orders.{Ordered}
 use Rattle.lists.proofs.OrderLaws.{pair, through}
-use Rattle.handles.specs.declared.handle.GenerationalHandle.{GenerationalHandle}
+use Rattle.handles.specs.declared.GenerationalHandle.{GenerationalHandle}
 use Rattle.handles.specs.Handles.{handleOf, handleKey, sameHandle, handleLt}
 
 one-key : (a b : GenerationalHandle) → handleKey a ≡ handleKey b → a ≡ b

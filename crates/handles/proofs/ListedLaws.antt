@@ -13,7 +13,7 @@ use borrow.Author.Tests.{ltb-false}
 use Rattle.lists.specs.Below.{countBelow}
 use Rattle.lists.proofs.ListLaws.{by-test}
 use Rattle.lists.proofs.BelowLaws.{count-none, count-more}
-use Rattle.handles.specs.declared.handle.GenerationalHandle.{GenerationalHandle}
+use Rattle.handles.specs.declared.GenerationalHandle.{GenerationalHandle}
 use Rattle.handles.specs.declared.arena.Slot.{Slot}
 use Rattle.handles.specs.declared.arena.Arena.{Arena}
 use Rattle.handles.specs.Handles.{handleOf}

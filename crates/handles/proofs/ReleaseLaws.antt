@@ -12,7 +12,7 @@ use borrow.Author.Tests.{leb-false, lt-ltb, lt-leb, eqb-false, ne-eqb}
 use Rattle.lists.specs.Below.{countBelow}
 use Rattle.lists.proofs.ListLaws.{by-test, clash, and-both, all-append}
 use Rattle.lists.proofs.BelowLaws.{count-flip}
-use Rattle.handles.specs.declared.handle.GenerationalHandle.{GenerationalHandle}
+use Rattle.handles.specs.declared.GenerationalHandle.{GenerationalHandle}
 use Rattle.handles.specs.declared.arena.Slot.{Slot}
 use Rattle.handles.specs.declared.arena.Arena.{Arena}
 use Rattle.handles.specs.declared.arena.ReleaseAnswer.{ReleaseAnswer}

@@ -8,7 +8,7 @@ use lib.Dec.{ltb, leb, eqb}
 use Rattle.lists.specs.Below.{allBelow, iterBelow}
 use Rattle.lists.specs.Tables.{Shape}
 use Rattle.handles.specs.Handles.{handleOf, invalidHandle, isValid}
-use Rattle.handles.specs.declared.handle.GenerationalHandle.{GenerationalHandle}
+use Rattle.handles.specs.declared.GenerationalHandle.{GenerationalHandle}
 use Rattle.handles.specs.declared.arena.Slot.{Slot}
 use Rattle.handles.specs.declared.arena.Arena.{Arena}
 use Rattle.handles.specs.declared.arena.Handles.{Handles}

@@ -21,7 +21,7 @@ ghost use Rattle.handles.specs.Slots.{
   handlesTable,
   liveHandles,
 };
-use crate::handle::GenerationalHandle;
+use crate::GenerationalHandle;
 use lists::both;
 
 // The places of the table: one form holds windows, views and panels.

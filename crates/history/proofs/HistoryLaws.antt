@@ -8,7 +8,7 @@ use mathlib.Core.Option.{Option, none, some}
 use native.Mathlib.Omega.{arith}
 use Rattle.lists.proofs.ListLaws.{clash}
 use Rattle.lists.proofs.TableLaws.{entries-packed}
-use Rattle.handles.specs.declared.handle.GenerationalHandle.{GenerationalHandle}
+use Rattle.handles.specs.declared.GenerationalHandle.{GenerationalHandle}
 use Rattle.maps.specs.Bindings.{bindings}
 use Rattle.composition_soundness.proofs.ClaimLaws as soundness
 use Rattle.input_router.specs.Router.{isStarted, pressesOf}

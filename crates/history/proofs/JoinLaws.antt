@@ -8,14 +8,14 @@ use Rattle.lists.specs.Lists.{keep, all}
 use Rattle.lists.specs.Maps.{rising}
 use Rattle.lists.proofs.ListLaws.{by-test, and-left, and-right, and-both}
 use Rattle.handles.specs.Handles.{sameHandle}
-use Rattle.handles.specs.declared.handle.GenerationalHandle.{GenerationalHandle}
+use Rattle.handles.specs.declared.GenerationalHandle.{GenerationalHandle}
 use Rattle.maps.specs.declared.bindings.Binding.{Binding}
-use Rattle.composition_state.specs.declared.error.CompositionError.{CompositionError}
-use Rattle.composition_state.specs.declared.error.CompositionError.the-variants.{RevisionExhausted, GenerationExhausted}
-use Rattle.composition_state.specs.declared.error.Outcome.{Outcome}
-use Rattle.composition_state.specs.declared.error.Outcome.the-variants.{Accepted, Refused}
+use Rattle.records.specs.declared.error.CompositionError.{CompositionError}
+use Rattle.records.specs.declared.error.CompositionError.the-variants.{RevisionExhausted, GenerationExhausted}
+use Rattle.records.specs.declared.error.Outcome.{Outcome}
+use Rattle.records.specs.declared.error.Outcome.the-variants.{Accepted, Refused}
 use Rattle.composition_state.specs.declared.registry.CompositionRegistry.{CompositionRegistry}
-use Rattle.composition_state.specs.Errors.{errorNumber}
+use Rattle.records.specs.Errors.{errorNumber}
 use Rattle.composition_soundness.proofs.ListLaws.{all-as}
 use Rattle.input_events.specs.declared.error.PlatformInputError.the-variants.{Composition}
 use Rattle.input_events.specs.RouterErrors.{routerNumberOf, fromComposition}

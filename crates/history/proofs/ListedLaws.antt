@@ -10,7 +10,7 @@ use Rattle.lists.proofs.ListLaws.{by-test, clash, and-left, and-right, and-both
 use Rattle.lists.proofs.MapLaws as maps
 use Rattle.lists.proofs.RisingLaws.{Over, Sorted, rising-sorted}
 use Rattle.handles.specs.Handles.{sameHandle, handleLt}
-use Rattle.handles.specs.declared.handle.GenerationalHandle.{GenerationalHandle}
+use Rattle.handles.specs.declared.GenerationalHandle.{GenerationalHandle}
 use Rattle.handles.proofs.HandleLaws.{handles}
 use Rattle.maps.specs.Bindings.{keyOfBinding}
 use Rattle.maps.specs.Keys.{keyLt}
@@ -18,9 +18,9 @@ use Rattle.maps.specs.MapTables.{isSome}
 use Rattle.maps.specs.declared.bindings.Binding.{Binding}
 use Rattle.maps.specs.declared.captures.Capture.{Capture}
 use Rattle.composition_soundness.proofs.ListLaws.{all-as}
-use Rattle.input_router.specs.ReleaseLists.{isOn, isNotBelow, byPanel, isListed, captureRelease, addCapture, addCaptures}
-use Rattle.input_router.proofs.KeepLaws.{keep-in, all-kept}
-use Rattle.input_router.proofs.ReleaseListLaws.{by-panel-least}
+use Rattle.release_lists.specs.Releases.{isOn, isNotBelow, byPanel, isListed, captureRelease, addCapture, addCaptures}
+use Rattle.release_lists.proofs.KeepLaws.{keep-in, all-kept}
+use Rattle.release_lists.proofs.ReleaseLaws.{by-panel-least}
 use Rattle.book.specs.Book.{Held, isOnPanel}
 use Rattle.book.specs.Owed.{sameRelease, noneTwice, cancelOf, thenCaptures, panelPut, panelsOf, panelByPanel}
 use Rattle.registry_book.specs.Claims.{captureOf}

@@ -12,22 +12,23 @@ use Rattle.lists.proofs.RisingLaws.{rising-keep}
 use Rattle.lists.proofs.TableLaws.{entries-packed}
 use Rattle.handles.specs.declared.arena.SlotStatus.{SlotStatus}
 use Rattle.handles.specs.declared.arena.SlotStatus.the-variants.{Live, Invalid, Stale}
-use Rattle.handles.specs.declared.handle.GenerationalHandle.{GenerationalHandle}
+use Rattle.handles.specs.declared.GenerationalHandle.{GenerationalHandle}
 use Rattle.maps.specs.Bindings.{bindings, keyOfBinding}
 use Rattle.maps.specs.Captures.{captures}
 use Rattle.maps.specs.Keys.{keyLt, deviceValid}
 use Rattle.maps.specs.declared.bindings.Binding.{Binding}
 use Rattle.maps.specs.declared.captures.Capture.{Capture}
 use Rattle.maps.specs.declared.keys.InputDeviceId.{InputDeviceId}
-use Rattle.composition_state.specs.declared.error.CompositionError.{CompositionError}
-use Rattle.composition_state.specs.declared.error.Outcome.{Outcome}
-use Rattle.composition_state.specs.declared.error.Outcome.the-variants.{Accepted, Refused}
+use Rattle.records.specs.declared.error.CompositionError.{CompositionError}
+use Rattle.records.specs.declared.error.Outcome.{Outcome}
+use Rattle.records.specs.declared.error.Outcome.the-variants.{Accepted, Refused}
 use Rattle.composition_state.specs.declared.registry.CompositionRegistry.{CompositionRegistry}
-use Rattle.composition_state.specs.Errors.{errorNumber, isAccepted, statusRefusal}
-use Rattle.composition_state.specs.Layers.{isLive}
-use Rattle.composition_state.specs.Surfaces.{surfaceStatus}
-use Rattle.composition_state.specs.Views.{viewAt, viewStatus}
-use Rattle.composition_input.specs.Captures.{captureList, deviceCaptures, releaseDevicePointerCaptures}
+use Rattle.records.specs.Errors.{errorNumber, isAccepted, statusRefusal}
+use Rattle.records.specs.Layers.{isLive}
+use Rattle.records.specs.Surfaces.{surfaceStatus}
+use Rattle.records.specs.Views.{viewAt, viewStatus}
+use Rattle.release_lists.specs.Captures.{captureList}
+use Rattle.composition_input.specs.Captures.{deviceCaptures, releaseDevicePointerCaptures}
 use Rattle.composition_input.specs.Focus.{suspendViewInput}
 use Rattle.composition_soundness.specs.Claims.{Undamaged}
 use Rattle.composition_soundness.proofs.CaseLaws.{refused≢accepted}
@@ -36,7 +37,7 @@ use Rattle.input_events.specs.declared.event.PlatformInputEvent.{PlatformInputE
 use Rattle.input_router.specs.declared.router.PlatformInputRouter.{PlatformInputRouter}
 use Rattle.input_router.specs.declared.view_releases.OptionalPress.the-variants.{None}
 use Rattle.input_router.specs.Damage.{isRouterSound}
-use Rattle.input_router.specs.ReleaseLists.{releases, addCaptures}
+use Rattle.release_lists.specs.Releases.{releases, addCaptures}
 use Rattle.input_router.specs.Releases.{devicePresses, withoutDevice as routerWithout}
 use Rattle.input_router.specs.Router.{pressesOf}
 use Rattle.input_router.specs.ViewReleases.{isClosed, pressOf, firstClosed, isOfView, releaseView}

@@ -3,11 +3,11 @@ use mathlib.Core.Path.{_≡_, refl, ap}
 use mathlib.Core.Bool.{Bool, true, false}
 use lib.Dec.{eqb}
 use Rattle.lists.proofs.ListLaws.{clash}
-use Rattle.composition_state.specs.declared.error.CompositionError.{CompositionError}
-use Rattle.composition_state.specs.declared.error.CompositionError.the-variants as composition
-use Rattle.composition_state.specs.declared.error.Outcome.{Outcome}
-use Rattle.composition_state.specs.declared.error.Outcome.the-variants as outcome
-use Rattle.composition_state.specs.Errors.{errorNumber}
+use Rattle.records.specs.declared.error.CompositionError.{CompositionError}
+use Rattle.records.specs.declared.error.CompositionError.the-variants as composition
+use Rattle.records.specs.declared.error.Outcome.{Outcome}
+use Rattle.records.specs.declared.error.Outcome.the-variants as outcome
+use Rattle.records.specs.Errors.{errorNumber}
 use Rattle.input_events.specs.declared.error.PlatformInputError.{PlatformInputError}
 use Rattle.input_events.specs.declared.error.PlatformInputError.the-variants as error
 use Rattle.input_events.specs.declared.error.RouterOutcome.{RouterOutcome}

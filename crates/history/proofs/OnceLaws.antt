@@ -10,7 +10,7 @@ use Rattle.lists.proofs.ListLaws.{by-test, clash, and-left, and-right, and-both
 use Rattle.lists.proofs.OrderLaws.{pairs}
 use Rattle.lists.proofs.RisingLaws.{Over, Sorted, rising-sorted}
 use Rattle.handles.specs.Handles.{sameHandle}
-use Rattle.handles.specs.declared.handle.GenerationalHandle.{GenerationalHandle}
+use Rattle.handles.specs.declared.GenerationalHandle.{GenerationalHandle}
 use Rattle.handles.proofs.HandleLaws.{handles}
 use Rattle.maps.specs.Bindings.{keyOfBinding}
 use Rattle.maps.specs.Captures.{captureKey}

@@ -6,11 +6,11 @@ use mathlib.Core.Option.{Option, none, some}
 use Rattle.lists.specs.Maps.{rising}
 use Rattle.lists.proofs.RisingLaws.{rising-keep, rising-insert}
 use Rattle.lists.proofs.TableLaws.{entries-packed}
-use Rattle.handles.specs.declared.handle.GenerationalHandle.{GenerationalHandle}
-use Rattle.handles.specs.declared.handle.OptionalHandle.{OptionalHandle}
-use Rattle.handles.specs.declared.handle.OptionalHandle.the-variants as handle
+use Rattle.handles.specs.declared.GenerationalHandle.{GenerationalHandle}
+use Rattle.handles.specs.declared.OptionalHandle.{OptionalHandle}
+use Rattle.handles.specs.declared.OptionalHandle.the-variants as handle
 use Rattle.maps.specs.declared.keys.CompositionPointerId.{CompositionPointerId}
-use Rattle.composition_state.specs.declared.error.Outcome.the-variants.{Accepted}
+use Rattle.records.specs.declared.error.Outcome.the-variants.{Accepted}
 use Rattle.composition_state.specs.declared.registry.CompositionRegistry.{CompositionRegistry}
 use Rattle.composition_input.specs.Captures.{primary, releaseDevicePointerCaptures}
 use Rattle.composition_input.proofs.ClaimLaws as inputs
@@ -21,7 +21,7 @@ use Rattle.composition_arbitration.proofs.CallClaimLaws as arbitration
 use Rattle.composition_close.specs.Close.{closeSurface}
 use Rattle.composition_close.proofs.ClaimLaws as closes
 use Rattle.composition_soundness.specs.Claims.{Undamaged}
-use Rattle.input_router.specs.ReleaseLists.{releases}
+use Rattle.release_lists.specs.Releases.{releases}
 use Rattle.calls.specs.declared.arguments.ArbitrateArguments.{ArbitrateArguments}
 use Rattle.calls.specs.declared.arguments.DeviceArguments.{DeviceArguments}
 use Rattle.calls.specs.declared.call.Call.{Call}

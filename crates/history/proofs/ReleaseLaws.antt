@@ -8,13 +8,13 @@ use Rattle.lists.specs.Lists.{keep, all}
 use Rattle.lists.proofs.ListLaws.{by-test, clash}
 use Rattle.lists.proofs.TableLaws.{entries-packed}
 use Rattle.handles.specs.Handles.{sameHandle}
-use Rattle.handles.specs.declared.handle.GenerationalHandle.{GenerationalHandle}
+use Rattle.handles.specs.declared.GenerationalHandle.{GenerationalHandle}
 use Rattle.maps.specs.Bindings.{bindings}
 use Rattle.maps.specs.MapTables.{retained}
 use Rattle.maps.specs.declared.bindings.Binding.{Binding}
 use Rattle.input_router.specs.declared.releases.Released.{Released}
 use Rattle.input_router.specs.Damage.{isRouterSound}
-use Rattle.input_router.specs.ReleaseLists.{releases, isOn, byPanel}
+use Rattle.release_lists.specs.Releases.{releases, isOn, byPanel}
 use Rattle.input_router.specs.Releases.{released, releaseSurface, releaseAll}
 use Rattle.input_router.specs.Router.{emptyRouter, withBindings, pressesOf}
 use Rattle.input_router.proofs.SoundLaws.{parts}

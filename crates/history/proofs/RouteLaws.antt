@@ -9,17 +9,17 @@ use lib.ListN.{length}
 use Rattle.lists.proofs.ListLaws.{by-test, and-left, and-right}
 use Rattle.lists.proofs.TableLaws.{entries-packed}
 use Rattle.handles.specs.declared.arena.SlotStatus.the-variants.{Live}
-use Rattle.handles.specs.declared.handle.GenerationalHandle.{GenerationalHandle}
+use Rattle.handles.specs.declared.GenerationalHandle.{GenerationalHandle}
 use Rattle.maps.specs.Keys.{deviceValid}
 use Rattle.maps.specs.declared.keys.InputDeviceId.{InputDeviceId}
-use Rattle.composition_state.specs.declared.error.CompositionError.{CompositionError}
-use Rattle.composition_state.specs.declared.error.CompositionError.the-variants.{RevisionExhausted}
-use Rattle.composition_state.specs.declared.error.Outcome.{Outcome}
-use Rattle.composition_state.specs.declared.error.Outcome.the-variants as outcome
+use Rattle.records.specs.declared.error.CompositionError.{CompositionError}
+use Rattle.records.specs.declared.error.CompositionError.the-variants.{RevisionExhausted}
+use Rattle.records.specs.declared.error.Outcome.{Outcome}
+use Rattle.records.specs.declared.error.Outcome.the-variants as outcome
 use Rattle.composition_state.specs.declared.registry.CompositionRegistry.{CompositionRegistry}
 use Rattle.composition_state.specs.Damage.{isSound}
 use Rattle.composition_state.specs.Registry.{advanced, settled}
-use Rattle.composition_state.specs.Views.{viewStatus, viewRefusal}
+use Rattle.records.specs.Views.{viewStatus, viewRefusal}
 use Rattle.composition_input.specs.Captures.{deviceRefusal, deviceCaptures, releaseDevicePointerCaptures}
 use Rattle.composition_input.specs.Focus.{suspendRefusal, suspendViewInput}
 use Rattle.composition_soundness.proofs.CaseLaws.{status-live, refused≢accepted}
@@ -29,7 +29,7 @@ use Rattle.input_events.specs.declared.event.PlatformInputEvent.{PlatformInputE
 use Rattle.input_events.specs.Checks.{deviceRefusal as deviceCheck, headerRefusal, payloadRefusal, eventRefusal}
 use Rattle.input_events.specs.RouterErrors.{fromComposition}
 use Rattle.input_router.specs.declared.router.PlatformInputRouter.{PlatformInputRouter}
-use Rattle.input_router.specs.ReleaseLists.{releases}
+use Rattle.release_lists.specs.Releases.{releases}
 use Rattle.input_releases.specs.declared.answer.Routed.{Routed}
 use Rattle.input_releases.specs.Answers.{refusedWith}
 use Rattle.calls.specs.declared.call.Call.the-variants.{Router}

@@ -3,12 +3,12 @@ use mathlib.Core.Path.{_≡_, refl, _∙_}
 use mathlib.Core.Bool.{true, not, cond}
 use borrow.Author.Tests.{not-false}
 use Rattle.lists.proofs.ListLaws.{by-test}
-use Rattle.handles.specs.declared.handle.GenerationalHandle.{GenerationalHandle}
-use Rattle.handles.specs.declared.handle.OptionalHandle.{OptionalHandle}
-use Rattle.handles.specs.declared.handle.OptionalHandle.the-variants as O
+use Rattle.handles.specs.declared.GenerationalHandle.{GenerationalHandle}
+use Rattle.handles.specs.declared.OptionalHandle.{OptionalHandle}
+use Rattle.handles.specs.declared.OptionalHandle.the-variants as O
 use Rattle.maps.specs.declared.keys.InputDeviceId.{InputDeviceId}
-use Rattle.composition_state.specs.declared.error.Outcome.{Outcome}
-use Rattle.composition_state.specs.declared.error.Outcome.the-variants as composition
+use Rattle.records.specs.declared.error.Outcome.{Outcome}
+use Rattle.records.specs.declared.error.Outcome.the-variants as composition
 use Rattle.composition_state.specs.declared.registry.CompositionRegistry.{CompositionRegistry}
 use Rattle.composition_input.specs.declared.answer.CapturesReleased.{CapturesReleased}
 use Rattle.composition_input.specs.declared.answer.Suspended.{Suspended}
@@ -29,7 +29,7 @@ use Rattle.input_events.specs.declared.presses.Effect.the-variants.{Opens, Ends
 use Rattle.input_events.specs.ArbitrationEvents.{arbitrationEvent, isLoss, isDisconnect}
 use Rattle.input_events.specs.Checks.{eventRefusal}
 use Rattle.input_events.specs.Presses.{effectOf}
-use Rattle.input_router.specs.declared.release_list.Releases.{Releases}
+use Rattle.release_lists.specs.declared.releases.Releases.{Releases}
 use Rattle.input_router.specs.declared.router.PlatformInputRouter.{PlatformInputRouter}
 use Rattle.input_router.specs.declared.view_releases.ViewReleased.{ViewReleased}
 use Rattle.input_router.specs.Damage.{isRouterSound}

@@ -9,17 +9,17 @@ use Rattle.lists.specs.Maps.{insert, remove}
 use Rattle.lists.specs.Tables.{entriesOf}
 use Rattle.lists.proofs.ListLaws.{by-test, clash, and-left, and-right, and-both, all-append}
 use Rattle.lists.proofs.TableLaws.{entries-packed}
-use Rattle.handles.specs.declared.handle.GenerationalHandle.{GenerationalHandle}
-use Rattle.handles.specs.declared.handle.OptionalHandle.{OptionalHandle}
-use Rattle.handles.specs.declared.handle.OptionalHandle.the-variants as handle
+use Rattle.handles.specs.declared.GenerationalHandle.{GenerationalHandle}
+use Rattle.handles.specs.declared.OptionalHandle.{OptionalHandle}
+use Rattle.handles.specs.declared.OptionalHandle.the-variants as handle
 use Rattle.maps.specs.Bindings.{bindings, keyOfBinding}
 use Rattle.maps.specs.Keys.{keyLt, keySame, bindingKey}
 use Rattle.maps.specs.declared.keys.BindingKey.{BindingKey}
 use Rattle.maps.specs.declared.keys.InputDeviceId.{InputDeviceId}
 use Rattle.composition_state.specs.declared.registry.CompositionRegistry.{CompositionRegistry}
-use Rattle.composition_state.specs.declared.trace.Deliveries.{Deliveries}
-use Rattle.composition_state.specs.declared.trace.InputDelivery.{InputDelivery}
-use Rattle.composition_state.specs.Traces.{deliveries}
+use Rattle.records.specs.declared.trace.Deliveries.{Deliveries}
+use Rattle.records.specs.declared.trace.InputDelivery.{InputDelivery}
+use Rattle.records.specs.Traces.{deliveries}
 use Rattle.composition_soundness.proofs.ListLaws.{all-keep}
 use Rattle.input_events.specs.declared.error.RouterOutcome.the-variants.{Accepted}
 use Rattle.input_events.specs.declared.event.KeyPhase.{KeyPhase}

@@ -5,8 +5,8 @@ use mathlib.Core.Bool.{Bool, true, false}
 use mathlib.Core.List.{List, [], _∷_, _++_}
 use mathlib.Core.Option.{Option, none, some}
 use lib.Dec.{eqb}
-use Rattle.handles.specs.declared.handle.GenerationalHandle.{GenerationalHandle}
-use Rattle.composition_state.specs.declared.error.Outcome.the-variants as composition
+use Rattle.handles.specs.declared.GenerationalHandle.{GenerationalHandle}
+use Rattle.records.specs.declared.error.Outcome.the-variants as composition
 use Rattle.composition_state.specs.Damage.{isSound}
 use Rattle.composition_state.specs.Start.{started}
 use Rattle.input_router.specs.declared.router.StartOutcome.the-variants as router

@@ -2,13 +2,13 @@
 use Prim.Native.Nat.{ℕ}
 use mathlib.Core.List.{List, [], _∷_}
 use Rattle.lists.specs.Tables.{entriesOf}
-use Rattle.handles.specs.declared.handle.GenerationalHandle.{GenerationalHandle}
+use Rattle.handles.specs.declared.GenerationalHandle.{GenerationalHandle}
 use Rattle.maps.specs.declared.bindings.Binding.{Binding}
 use Rattle.composition_state.specs.declared.registry.CompositionLimits.{CompositionLimits}
 use Rattle.composition_state.specs.Start.{started}
-use Rattle.composition_state.specs.Traces.{deliveries}
+use Rattle.records.specs.Traces.{deliveries}
 use Rattle.input_events.specs.RouterErrors.{routerNumberOf}
-use Rattle.input_router.specs.ReleaseLists.{releases}
+use Rattle.release_lists.specs.Releases.{releases}
 use Rattle.input_router.specs.Router.{started as routerStarted}
 use Rattle.calls.specs.declared.call.Call.{Call}
 use Rattle.calls.specs.declared.call.Lists.{Lists}

@@ -23,7 +23,7 @@ use Rattle.call_numbers.specs.Calls.{callAt}
 use Rattle.call_numbers.specs.Events.{routerAt}
 use Rattle.call_forms.specs.Forms.{isForm}
 use Rattle.host_message.specs.declared.message.Message.{Message}
-use Rattle.host_message.specs.Messages.{isMessage, listsOf}
+use Rattle.host_message.specs.Messages.{isMessage}
 use Rattle.host_calls.specs.declared.direct_route.RouteMessage.{RouteMessage}
 use Rattle.host_calls.specs.declared.fresh.Start.{Start}
 use Rattle.host_calls.specs.Calls.{called, made, untouched, calledWith}

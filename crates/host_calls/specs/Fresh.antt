@@ -3,7 +3,7 @@ use Prim.Native.Nat.{ℕ}
 use mathlib.Core.Bool.{cond}
 use lib.Dec.{eqb}
 use Rattle.composition_state.specs.declared.registry.Changed.{Changed}
-use Rattle.composition_state.specs.Errors.{numberOf}
+use Rattle.records.specs.Errors.{numberOf}
 use Rattle.composition_state.specs.Start.{started}
 use Rattle.input_router.specs.declared.router.RouterStart.{RouterStart}
 use Rattle.input_router.specs.Router.{started as routerStarted, startNumber}

@@ -29,21 +29,18 @@ fn make(memory: CounterMemory, message: Message, answer: &mut [u8]) -> Called
 {
     let words = message.call;
     let hits = message.hits;
-    let registrations = message.registrations;
     let call = call_at(words);
-    let given = registrations_of(registrations);
+    let given = registrations_of(message.registrations);
     let beside = Lists {
         hits,
         registrations: given,
     };
     let done = step(counter_of(memory), call, beside);
-    let counter = done.counter;
-    let told = done.answer;
-    let length = put_answer(answer, call, told, counter);
+    let length = put_answer(answer, call, done.answer, done.counter);
     let status = Status { number: 0, length };
     Called {
         status,
-        memory: memory_of(counter),
+        memory: memory_of(done.counter),
         message,
     }
 }

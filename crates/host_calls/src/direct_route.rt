@@ -39,13 +39,11 @@ fn make_route(memory: CounterMemory, message: RouteMessage, answer: &mut [u8]) -
     let words = message.call;
     let call = router_at(words);
     let done = router_step(counter_of(memory), call);
-    let counter = done.counter;
-    let told = done.answer;
-    let length = put_answer(answer, Call::Router(call), told, counter);
+    let length = put_answer(answer, Call::Router(call), done.answer, done.counter);
     let status = Status { number: 0, length };
     RouteCalled {
         status,
-        memory: memory_of(counter),
+        memory: memory_of(done.counter),
         message,
     }
 }

@@ -3,15 +3,15 @@ ghost use mathlib.Core.Path.{_≡_};
 ghost use Rattle.host_calls.specs.Fresh.{firstRefusal, startedMemory};
 use crate::status::Status;
 use crate::status::status_of;
-use composition_state::error::number;
 use composition_state::registry::CompositionLimits;
 use composition_state::registry::CompositionRegistry;
 use counter::step::Counter;
 use counter_memory::memory::CounterMemory;
 use counter_memory::memory::memory_of;
-use handles::handle::GenerationalHandle;
+use handles::GenerationalHandle;
 use input_router::router::PlatformInputRouter;
 use input_router::router::start_number;
+use records::error::number;
 
 // What a registry and a router are started with.
 #[repr(C)]
@@ -44,12 +44,10 @@ fn first_refusal(registry: u64, router: u64) -> u64
 pub fn start_counter(memory: CounterMemory, start: Start) -> Started
     ensures { λ r. ⌜ r ≡ startedMemory memory start ⌝ }
 {
-    let session = start.session;
-    let limits = start.limits;
     let first = CompositionRegistry::new_at(
-        session,
+        start.session,
         start.session_epoch,
-        limits,
+        start.limits,
         start.first_revision,
         start.first_generation,
     );

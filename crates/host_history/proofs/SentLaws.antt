@@ -1,5 +1,4 @@
 -- A host's list of calls is the list of steps: what is taken is a step by `host_claims`, what is refused leaves the memory, then by induction over the list. Demand 3 of the calls is so demand 3 of a host's.
-use Prim.Native.Nat.{ℕ}
 use mathlib.Core.Path.{_≡_, refl, sym, ap, subst, _∙_}
 use mathlib.Core.Bool.{Bool, true, false, cond}
 use mathlib.Core.List.{List, [], _∷_}
@@ -13,7 +12,7 @@ use Rattle.counter.specs.declared.step.Counter.{Counter}
 use Rattle.counter_memory.specs.declared.memory.CounterMemory.{CounterMemory}
 use Rattle.counter_memory.specs.Memory.{counterOf}
 use Rattle.answer_words.specs.Answers.{answerPlaced}
-use Rattle.history.specs.Histories.{Asked, after, fresh}
+use Rattle.history.specs.Histories.{Asked, after}
 use Rattle.history.proofs.HistoryLaws.{demand-3, never-damaged}
 use Rattle.in_place_history.specs.Entries.{noLists}
 use Rattle.host_calls.specs.Calls.{called, made, untouched}

@@ -1,5 +1,4 @@
 -- Demand 3 covers the library: after any list of a host's calls the memory is read as the counter that the same list of steps leaves.
-use Prim.Native.Nat.{ℕ}
 use mathlib.Core.Path.{_≡_}
 use mathlib.Core.Bool.{true}
 use mathlib.Core.List.{List, _∷_, _++_}
@@ -16,7 +15,7 @@ use Rattle.book.specs.Book.{emptyBook}
 use Rattle.book.specs.Owed.{noneTwice, owed}
 use Rattle.history.specs.Demand.{Accepts, Kept}
 use Rattle.history.specs.Histories.{Start, Asked, Entry, fresh, after, history, bookAfter}
-use Rattle.host_history.specs.Sent.{Sent, buffer, refusal, memoryLeft, bufferLeft, askedBy, memoryAfter, calls}
+use Rattle.host_history.specs.Sent.{Sent, buffer, refusal, bufferLeft, askedBy, memoryAfter, calls}
 
 -- the step of a call on the counter that the memory is read as
 abbrev pub stepOn : CounterMemory → Asked → Stepped

@@ -13,7 +13,7 @@ use mir.Facts.{ofZ-toZ}
 use Rattle.lists.specs.Below.{allBelow}
 use Rattle.lists.proofs.BelowLaws.{all-at}
 use Rattle.lists.proofs.ListLaws.{by-test, and-left, and-right}
-use Rattle.composition_state.specs.declared.shortcut.SurfaceShortcutRegistration.{SurfaceShortcutRegistration}
+use Rattle.records.specs.declared.shortcut.SurfaceShortcutRegistration.{SurfaceShortcutRegistration}
 use Rattle.composition_shortcuts.specs.Register.{registrationOf as ofMask}
 use Rattle.call_fields.specs.declared.groups.RegistrationNumbers.{RegistrationNumbers}
 use Rattle.call_fields.specs.Groups.{registrationOf, registrationNumbers}

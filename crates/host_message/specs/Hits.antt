@@ -3,8 +3,8 @@ use Prim.Native.Nat.{ℕ}
 use mathlib.Core.Bool.{Bool, cond, true, _&&_}
 use lib.Dec.{eqb, ltb}
 use lib.ListN.{getD}
-use Rattle.handles.specs.declared.handle.GenerationalHandle.{GenerationalHandle}
-use Rattle.composition_state.specs.declared.trace.Hits.{Hits}
+use Rattle.handles.specs.declared.GenerationalHandle.{GenerationalHandle}
+use Rattle.records.specs.declared.trace.Hits.{Hits}
 
 abbrev pub isHitForm : ℕ → ℕ → GenerationalHandle → Bool
 isHitForm n i h = cond (ltb i n) true (eqb (h .index) 0 && eqb (h .generation) 0)

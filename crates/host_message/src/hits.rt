@@ -2,8 +2,8 @@
 ghost use mathlib.Core.Path.{_≡_};
 ghost use Rattle.lists.specs.Below.{allBelow};
 ghost use Rattle.host_message.specs.Hits.{isHitForm, hitForm};
-use composition_state::trace::Hits;
-use handles::handle::GenerationalHandle;
+use handles::GenerationalHandle;
+use records::trace::Hits;
 
 fn is_hit_form(len: usize, at: usize, hit: GenerationalHandle) -> bool
     ensures { λ r. ⌜ r ≡ isHitForm len at hit ⌝ }

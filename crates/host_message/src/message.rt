@@ -9,7 +9,7 @@ use call_numbers::call::call_at;
 use calls::call::Call;
 use calls::call::ShortcutCall;
 use composition_arbitration::arbitrate::is_stack;
-use composition_state::trace::Hits;
+use records::trace::Hits;
 
 #[repr(C)]
 pub struct Message {
@@ -75,18 +75,16 @@ pub fn is_message(message: Message) -> bool
     ensures { λ r. ⌜ r ≡ isMessage message ⌝ }
 {
     let words = message.call;
-    let hits = message.hits;
-    let registrations = message.registrations;
     let call = call_at(words);
     let allowed = lists::both(
-        is_allowed(takes_hits(call), hits.len),
-        is_allowed(takes_registrations(call), registrations.len),
+        is_allowed(takes_hits(call), message.hits.len),
+        is_allowed(takes_registrations(call), message.registrations.len),
     );
     lists::both(
         is_form(words),
         lists::both(
-            are_hits_form(hits),
-            lists::both(are_registrations_form(registrations), allowed),
+            are_hits_form(message.hits),
+            lists::both(are_registrations_form(message.registrations), allowed),
         ),
     )
 }

@@ -8,7 +8,7 @@ ghost use Rattle.host_message.specs.Registrations.{registrationsOf, isEn
 use call_fields::groups::RegistrationNumbers;
 use call_fields::groups::registration_of;
 use composition_shortcuts::register::Registrations;
-use composition_state::shortcut::SurfaceShortcutRegistration;
+use records::shortcut::SurfaceShortcutRegistration;
 
 #[repr(C)]
 pub struct RegistrationsNumbers {

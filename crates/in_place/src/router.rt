@@ -9,7 +9,7 @@ use crate::router_parts::release_all_parts;
 use crate::router_parts::release_surface_parts;
 use crate::router_parts::route_parts;
 use composition_state::registry::CompositionRegistry;
-use handles::handle::GenerationalHandle;
+use handles::GenerationalHandle;
 use input_events::event::PlatformInputEvent;
 use input_router::router::PlatformInputRouter;
 

@@ -4,14 +4,14 @@ ghost use Rattle.input_route.specs.Route.{routed};
 ghost use Rattle.input_router.specs.Releases.{releaseSurface, releaseAll};
 ghost use Rattle.in_place.specs.Parts.{routeParts, releaseParts};
 use composition_state::registry::CompositionRegistry;
-use handles::handle::GenerationalHandle;
+use handles::GenerationalHandle;
 use input_events::error::RouterOutcome;
 use input_events::event::PlatformInputEvent;
 use input_releases::answer::PlatformInputRoutingReport;
 use input_route::route::route;
-use input_router::release_list::Releases;
 use input_router::releases::Released;
 use input_router::router::PlatformInputRouter;
+use release_lists::releases::Releases;
 
 pub struct RouteAnswer {
     pub outcome: RouterOutcome,

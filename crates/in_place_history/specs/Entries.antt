@@ -1,15 +1,15 @@
 -- The in-place entries as a list of calls on one counter: what stands behind the references after each, and what it answers, by the entries' contracts.
 use mathlib.Core.List.{List, [], _∷_}
 use Rattle.lists.specs.Tables.{entriesOf, packed}
-use Rattle.handles.specs.declared.handle.GenerationalHandle.{GenerationalHandle}
-use Rattle.handles.specs.declared.handle.OptionalHandle.the-variants as handle
-use Rattle.composition_state.specs.Traces.{deliveries, hits}
+use Rattle.handles.specs.declared.GenerationalHandle.{GenerationalHandle}
+use Rattle.handles.specs.declared.OptionalHandle.the-variants as handle
+use Rattle.records.specs.Traces.{deliveries, hits}
 use Rattle.composition_shortcuts.specs.Register.{registrations}
 use Rattle.input_events.specs.declared.error.PlatformInputError.the-variants.{Damaged}
 use Rattle.input_events.specs.declared.event.PlatformInputEvent.{PlatformInputEvent}
 use Rattle.input_events.specs.RouterErrors.{routerNumberOf, routerRefusalIf}
 use Rattle.input_route.specs.Route.{routed}
-use Rattle.input_router.specs.ReleaseLists.{releases}
+use Rattle.release_lists.specs.Releases.{releases}
 use Rattle.input_router.specs.Releases.{releaseSurface, releaseAll}
 use Rattle.calls.specs.declared.call.Call.{Call}
 use Rattle.calls.specs.declared.call.Call.the-variants.{Router}

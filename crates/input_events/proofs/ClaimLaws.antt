@@ -6,13 +6,13 @@ use native.Mathlib.Omega.{arith}
 use borrow.Author.Tests.{eqb-true, eqb-false}
 use lib.Dec.{eqb, ltb, leb}
 use Rattle.lists.proofs.ListLaws.{by-test, clash}
-use Rattle.handles.specs.declared.handle.OptionalHandle.{OptionalHandle}
+use Rattle.handles.specs.declared.OptionalHandle.{OptionalHandle}
 use Rattle.maps.specs.declared.keys.BindingKey.{BindingKey}
 use Rattle.maps.specs.declared.keys.CompositionPointerId.{CompositionPointerId}
 use Rattle.maps.specs.declared.keys.InputDeviceId.{InputDeviceId}
-use Rattle.composition_state.specs.Errors.{errorNumber}
-use Rattle.composition_state.specs.declared.error.CompositionError.{CompositionError}
-use Rattle.composition_state.specs.declared.error.CompositionError.the-variants as composition
+use Rattle.records.specs.Errors.{errorNumber}
+use Rattle.records.specs.declared.error.CompositionError.{CompositionError}
+use Rattle.records.specs.declared.error.CompositionError.the-variants as composition
 use Rattle.input_events.specs.declared.error.PlatformInputError.{PlatformInputError}
 use Rattle.input_events.specs.declared.error.PlatformInputError.the-variants as error
 use Rattle.input_events.specs.declared.event.CompositionInput.{CompositionInput}

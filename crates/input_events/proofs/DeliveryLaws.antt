@@ -8,10 +8,10 @@ use denote.Laws.{Is}
 use denote.Struct.Laws as LL
 use Rattle.lists.specs.Tables.{entriesOf}
 use Rattle.lists.proofs.TableLaws as table
-use Rattle.composition_state.specs.declared.trace.Deliveries.{Deliveries}
-use Rattle.composition_state.specs.Traces.{deliveries}
-use Rattle.composition_state.proofs.trace.Deliveries as T
-use Rattle.composition_state.proofs.trace.Deliveries.Laws as T′
+use Rattle.records.specs.declared.trace.Deliveries.{Deliveries}
+use Rattle.records.specs.Traces.{deliveries}
+use Rattle.records.proofs.trace.Deliveries as T
+use Rattle.records.proofs.trace.Deliveries.Laws as T′
 
 pub long : (t : Deliveries) {vs : List Val} → Is T.the-row t vs → length (t .items) ≡ 16
 long t {vs} p = sym (length-map (t .items) _) ∙ LL.owed T.the-type T′.the-laws t vs p .0 .1 .0 .1

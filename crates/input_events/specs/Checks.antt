@@ -7,10 +7,10 @@ use lib.Signed.{leZ}
 use Rattle.handles.specs.Handles.{sameHandle}
 use Rattle.maps.specs.Keys.{deviceValid}
 use Rattle.maps.specs.declared.keys.InputDeviceId.{InputDeviceId}
-use Rattle.composition_state.specs.declared.error.CompositionError.the-variants.{RevisionConflict}
-use Rattle.composition_state.specs.declared.view.ViewRecord.{ViewRecord}
-use Rattle.composition_state.specs.declared.view.ViewTable.{ViewTable}
-use Rattle.composition_state.specs.Views.{viewAt, viewRefusal}
+use Rattle.records.specs.declared.error.CompositionError.the-variants.{RevisionConflict}
+use Rattle.records.specs.declared.view.ViewRecord.{ViewRecord}
+use Rattle.records.specs.declared.view.ViewTable.{ViewTable}
+use Rattle.records.specs.Views.{viewAt, viewRefusal}
 use Rattle.input_events.specs.declared.error.PlatformInputError.the-variants as error
 use Rattle.input_events.specs.declared.error.RouterOutcome.{RouterOutcome}
 use Rattle.input_events.specs.declared.error.RouterOutcome.the-variants.{Accepted}

@@ -4,15 +4,15 @@ use mathlib.Core.Bool.{Bool, true, false, not}
 use mathlib.Core.Option.{Option, none, some}
 use Rattle.lists.specs.Lists.{first}
 use Rattle.lists.specs.Tables.{entriesOf}
-use Rattle.handles.specs.declared.handle.OptionalHandle.{OptionalHandle}
-use Rattle.handles.specs.declared.handle.OptionalHandle.the-variants as O
+use Rattle.handles.specs.declared.OptionalHandle.{OptionalHandle}
+use Rattle.handles.specs.declared.OptionalHandle.the-variants as O
 use Rattle.maps.specs.declared.keys.BindingKey.{BindingKey}
 use Rattle.maps.specs.declared.keys.BindingKey.the-variants as B
 use Rattle.maps.specs.declared.keys.CompositionPointerId.{CompositionPointerId}
 use Rattle.maps.specs.declared.keys.InputDeviceId.{InputDeviceId}
-use Rattle.composition_state.specs.declared.trace.Deliveries.{Deliveries}
-use Rattle.composition_state.specs.declared.trace.InputDelivery.{InputDelivery}
-use Rattle.composition_state.specs.Traces.{deliveries}
+use Rattle.records.specs.declared.trace.Deliveries.{Deliveries}
+use Rattle.records.specs.declared.trace.InputDelivery.{InputDelivery}
+use Rattle.records.specs.Traces.{deliveries}
 use Rattle.input_events.specs.declared.event.KeyPhase.{KeyPhase}
 use Rattle.input_events.specs.declared.event.KeyPhase.the-variants as K
 use Rattle.input_events.specs.declared.event.PlatformInputEvent.{PlatformInputEvent}

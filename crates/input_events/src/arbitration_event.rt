@@ -10,11 +10,11 @@ use crate::event::PointerPhase;
 use crate::event::ShortcutInput;
 use crate::event::WheelInput;
 use crate::presses::pointer_of;
-use composition_state::trace::ArbitrationEvent;
 use geometry::transform::Point;
-use handles::handle::OptionalHandle;
+use handles::OptionalHandle;
 use maps::keys::CompositionPointerId;
 use maps::keys::InputDeviceId;
+use records::trace::ArbitrationEvent;
 
 fn pointer_event(
     phase: PointerPhase,
@@ -93,10 +93,8 @@ fn arbitration_event_in(
 pub fn arbitration_event(event: PlatformInputEvent, held: OptionalHandle) -> ArbitrationEvent
     ensures { λ r. ⌜ r ≡ arbitrationEvent event held ⌝ }
 {
-    let header = event.header;
-    let device = header.device;
     let payload = event.payload;
-    arbitration_event_in(device, payload, held)
+    arbitration_event_in(event.header.device, payload, held)
 }
 
 fn is_aimed(phase: PointerPhase) -> bool

@@ -10,12 +10,12 @@ use crate::event::PlatformInputHeader;
 use crate::event::PlatformInputPayload;
 use crate::event::PointerInput;
 use crate::event::ShortcutInput;
-use composition_state::error::CompositionError;
-use composition_state::view::ViewRecord;
-use composition_state::view::ViewTable;
-use handles::handle::same_handle;
+use handles::same_handle;
 use lists::both;
 use maps::keys::InputDeviceId;
+use records::error::CompositionError;
+use records::view::ViewRecord;
+use records::view::ViewTable;
 
 fn contact_refusal(contact: u32) -> RouterOutcome
     ensures { λ r. ⌜ r ≡ contactRefusal contact ⌝ }
@@ -90,17 +90,17 @@ pub fn device_refusal(device: InputDeviceId) -> RouterOutcome
 fn window_refusal(record: ViewRecord, header: PlatformInputHeader) -> RouterOutcome
     ensures { λ r. ⌜ r ≡ windowRefusal «record» header ⌝ }
 {
-    let own = record.window;
-    let named = header.window;
-    refuse_if(!same_handle(own, named), PlatformInputError::InvalidWindow)
+    refuse_if(
+        !same_handle(record.window, header.window),
+        PlatformInputError::InvalidWindow,
+    )
 }
 
 fn metrics_refusal(record: ViewRecord, header: PlatformInputHeader) -> RouterOutcome
     ensures { λ r. ⌜ r ≡ metricsRefusal «record» header ⌝ }
 {
-    let metrics = record.metrics;
     refuse_if(
-        metrics.revision != header.metrics_revision,
+        record.metrics.revision != header.metrics_revision,
         PlatformInputError::Composition(CompositionError::RevisionConflict),
     )
 }
@@ -109,9 +109,8 @@ fn metrics_refusal(record: ViewRecord, header: PlatformInputHeader) -> RouterOut
 pub fn header_refusal(views: ViewTable, header: PlatformInputHeader) -> RouterOutcome
     ensures { λ r. ⌜ r ≡ headerRefusal views header ⌝ }
 {
-    let view = header.view;
-    let record = views.record(view);
-    let unknown = crate::error::from_composition(views.refusal(view));
+    let record = views.record(header.view);
+    let unknown = crate::error::from_composition(views.refusal(header.view));
     let window = window_refusal(record, header);
     let metrics = metrics_refusal(record, header);
     unknown.then(window.then(metrics))
@@ -121,11 +120,9 @@ pub fn header_refusal(views: ViewTable, header: PlatformInputHeader) -> RouterOu
 pub fn event_refusal(views: ViewTable, event: PlatformInputEvent) -> RouterOutcome
     ensures { λ r. ⌜ r ≡ eventRefusal views event ⌝ }
 {
-    let header = event.header;
-    let device = header.device;
     let payload = event.payload;
-    let by_device = device_refusal(device);
-    let by_header = header_refusal(views, header);
+    let by_device = device_refusal(event.header.device);
+    let by_header = header_refusal(views, event.header);
     let by_payload = payload_refusal(payload);
     by_device.then(by_header.then(by_payload))
 }

@@ -1,8 +1,8 @@
 // Why the router refuses an event.
 ghost use mathlib.Core.Path.{_≡_};
 ghost use Rattle.input_events.specs.RouterErrors.{routerErrorNumber, routerNumberOf, isRouterAccepted, thenRouterRefusal, routerRefusalIf, fromComposition};
-use composition_state::error::CompositionError;
-use composition_state::error::Outcome;
+use records::error::CompositionError;
+use records::error::Outcome;
 
 // The Rust's errors in their declared order, the two added by document 01, and the registry's refusals.
 pub enum PlatformInputError {
@@ -83,7 +83,7 @@ pub fn error_number(error: PlatformInputError) -> u64
         PlatformInputError::Capacity => 40,
         PlatformInputError::PortLimit => 41,
         PlatformInputError::Damaged => 42,
-        PlatformInputError::Composition(inner) => composition_state::error::error_number(inner),
+        PlatformInputError::Composition(inner) => records::error::error_number(inner),
     }
 }
 

@@ -3,7 +3,7 @@ ghost use mathlib.Core.Path.{_≡_};
 ghost use lib.ListN.{length};
 ghost use Rattle.lists.specs.Lists.{first};
 ghost use Rattle.lists.specs.Tables.{entriesOf};
-ghost use Rattle.composition_state.specs.Traces.{deliveries as stateDeliveries};
+ghost use Rattle.records.specs.Traces.{deliveries as stateDeliveries};
 ghost use Rattle.input_events.specs.Presses.{pointerOf, pointerPress, keyPress, pressIn, pressOf, pointerEffect, keyEffect, gamepadEffect, effectIn, effectOf, isUnobserved, deliverySurface, receiverOf};
 use crate::event::GamepadInput;
 use crate::event::KeyInput;
@@ -11,13 +11,13 @@ use crate::event::KeyPhase;
 use crate::event::PlatformInputEvent;
 use crate::event::PlatformInputPayload;
 use crate::event::PointerPhase;
-use composition_state::trace::Deliveries;
-use composition_state::trace::InputDelivery;
-use handles::handle::OptionalHandle;
+use handles::OptionalHandle;
 use maps::keys::BindingKey;
 use maps::keys::CompositionPointerId;
 use maps::keys::DeviceKey;
 use maps::keys::InputDeviceId;
+use records::trace::Deliveries;
+use records::trace::InputDelivery;
 
 pub enum OptionalPress {
     None,
@@ -85,10 +85,8 @@ fn press_in(device: InputDeviceId, payload: PlatformInputPayload) -> OptionalPre
 pub fn press_of(event: PlatformInputEvent) -> OptionalPress
     ensures { λ r. ⌜ r ≡ pressOf event ⌝ }
 {
-    let header = event.header;
-    let device = header.device;
     let payload = event.payload;
-    press_in(device, payload)
+    press_in(event.header.device, payload)
 }
 
 fn pointer_effect(phase: PointerPhase, press: BindingKey) -> Effect
@@ -153,10 +151,8 @@ fn effect_in(device: InputDeviceId, payload: PlatformInputPayload) -> Effect
 pub fn effect_of(event: PlatformInputEvent) -> Effect
     ensures { λ r. ⌜ r ≡ effectOf event ⌝ }
 {
-    let header = event.header;
-    let device = header.device;
     let payload = event.payload;
-    effect_in(device, payload)
+    effect_in(event.header.device, payload)
 }
 
 fn count(deliveries: Deliveries) -> usize

@@ -1,15 +1,15 @@
 -- What `route` answers; a refused event has a blank report.
 use mathlib.Core.List.{[]}
 use Rattle.lists.specs.Tables.{packed}
-use Rattle.handles.specs.declared.handle.OptionalHandle.the-variants as O
+use Rattle.handles.specs.declared.OptionalHandle.the-variants as O
 use Rattle.composition_state.specs.declared.registry.CompositionRegistry.{CompositionRegistry}
-use Rattle.composition_state.specs.Traces.{deliveries}
+use Rattle.records.specs.Traces.{deliveries}
 use Rattle.composition_input.specs.declared.answer.OptionalInputState.the-variants as S
 use Rattle.composition_arbitration.specs.declared.arbitrate.ArbitrationResult.{ArbitrationResult}
 use Rattle.input_events.specs.declared.error.PlatformInputError.{PlatformInputError}
 use Rattle.input_events.specs.declared.error.RouterOutcome.the-variants.{Refused}
 use Rattle.input_router.specs.declared.router.PlatformInputRouter.{PlatformInputRouter}
-use Rattle.input_router.specs.ReleaseLists.{releases}
+use Rattle.release_lists.specs.Releases.{releases}
 use Rattle.input_releases.specs.declared.answer.PlatformInputRoutingReport.{PlatformInputRoutingReport}
 use Rattle.input_releases.specs.declared.answer.RouteKind.the-variants.{Nothing}
 use Rattle.input_releases.specs.declared.answer.Routed.{Routed}

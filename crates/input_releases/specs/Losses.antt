@@ -1,26 +1,27 @@
 -- Document 01, Release order: a device's presses or those of a view's panels, then its captures; and what a refusal there has written.
 use Prim.Native.Nat.{ℕ}
 use Rattle.lists.specs.Tables.{entriesOf, packed}
-use Rattle.handles.specs.declared.handle.GenerationalHandle.{GenerationalHandle}
+use Rattle.handles.specs.declared.GenerationalHandle.{GenerationalHandle}
 use Rattle.maps.specs.declared.keys.InputDeviceId.{InputDeviceId}
 use Rattle.maps.specs.Bindings.{bindings}
 use Rattle.maps.specs.Captures.{captures}
-use Rattle.composition_state.specs.declared.error.Outcome.{Outcome}
-use Rattle.composition_state.specs.declared.error.Outcome.the-variants as composition
+use Rattle.records.specs.declared.error.Outcome.{Outcome}
+use Rattle.records.specs.declared.error.Outcome.the-variants as composition
 use Rattle.composition_state.specs.declared.registry.CompositionRegistry.{CompositionRegistry}
-use Rattle.composition_state.specs.Views.{viewAt}
+use Rattle.records.specs.Views.{viewAt}
 use Rattle.composition_input.specs.declared.answer.CapturesReleased.{CapturesReleased}
 use Rattle.composition_input.specs.declared.answer.OptionalInputState.{OptionalInputState}
 use Rattle.composition_input.specs.declared.answer.OptionalInputState.the-variants as S
 use Rattle.composition_input.specs.declared.answer.Suspended.{Suspended}
-use Rattle.composition_input.specs.Captures.{captureList, releaseDevicePointerCaptures}
+use Rattle.release_lists.specs.Captures.{captureList}
+use Rattle.composition_input.specs.Captures.{releaseDevicePointerCaptures}
 use Rattle.composition_input.specs.Focus.{suspendViewInput}
 use Rattle.input_events.specs.declared.error.PlatformInputError.the-variants as error
 use Rattle.input_events.specs.declared.error.RouterOutcome.the-variants.{Accepted}
-use Rattle.input_router.specs.declared.release_list.Releases.{Releases}
+use Rattle.release_lists.specs.declared.releases.Releases.{Releases}
 use Rattle.input_router.specs.declared.router.PlatformInputRouter.{PlatformInputRouter}
 use Rattle.input_router.specs.declared.view_releases.ViewReleased.{ViewReleased}
-use Rattle.input_router.specs.ReleaseLists.{releases, addCaptures}
+use Rattle.release_lists.specs.Releases.{releases, addCaptures}
 use Rattle.input_router.specs.Releases.{devicePresses, withoutDevicePresses, withoutDevice}
 use Rattle.input_router.specs.ViewReleases.{releaseView}
 use Rattle.input_releases.specs.declared.answer.PlatformInputRoutingReport.{PlatformInputRoutingReport}

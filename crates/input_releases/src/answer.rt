@@ -4,12 +4,12 @@ ghost use Rattle.input_releases.specs.Answers.{noResult, noReport, refus
 use composition_arbitration::arbitrate::ArbitrationResult;
 use composition_input::answer::OptionalInputState;
 use composition_state::registry::CompositionRegistry;
-use composition_state::trace::Deliveries;
-use handles::handle::OptionalHandle;
+use handles::OptionalHandle;
 use input_events::error::PlatformInputError;
 use input_events::error::RouterOutcome;
-use input_router::release_list::Releases;
 use input_router::router::PlatformInputRouter;
+use records::trace::Deliveries;
+use release_lists::releases::Releases;
 
 // What became of an event; of a refused one nothing did.
 pub enum RouteKind {

@@ -9,16 +9,16 @@ use crate::answer::refused;
 use composition_input::answer::OptionalInputState;
 use composition_input::captures::release_device_pointer_captures;
 use composition_input::focus::suspend_view_input;
-use composition_state::error::Outcome;
 use composition_state::registry::CompositionRegistry;
-use handles::handle::GenerationalHandle;
+use handles::GenerationalHandle;
 use input_events::error::PlatformInputError;
 use input_events::error::RouterOutcome;
-use input_router::release_list::Releases;
-use input_router::release_list::add_captures;
-use input_router::release_list::add_view_captures;
 use input_router::router::PlatformInputRouter;
 use maps::keys::InputDeviceId;
+use records::error::Outcome;
+use release_lists::releases::Releases;
+use release_lists::releases::add_captures;
+use release_lists::releases::add_view_captures;
 
 fn disconnect_report(releases: Releases, revision: u64) -> PlatformInputRoutingReport
     ensures { λ r. ⌜ r ≡ disconnectReport releases revision ⌝ }
@@ -44,11 +44,13 @@ pub fn route_disconnect(
     let presses = router.device_presses(device);
     let released = release_device_pointer_captures(registry, device.value, device.generation);
     let after = released.registry;
-    let list = released.released;
     let outcome = released.outcome;
     match outcome {
         Outcome::Accepted => {
-            let report = disconnect_report(add_captures(presses, list), after.revision);
+            let report = disconnect_report(
+                add_captures(presses, released.released),
+                after.revision,
+            );
             Routed {
                 outcome: RouterOutcome::Accepted,
                 report,
@@ -116,11 +118,9 @@ pub fn route_loss(
 ) -> Routed
     ensures { λ r. ⌜ r ≡ routedLoss registry router view ⌝ }
 {
-    let surfaces = registry.surfaces;
-    let views = registry.views;
-    let record = views.record(view);
+    let record = registry.views.record(view);
     let captures = record.pointer_captures;
-    let released = router.release_view(surfaces, view);
+    let released = router.release_view(registry.surfaces, view);
     let presses = released.presses;
     let left = released.router;
     let outcome = released.outcome;

@@ -1,10 +1,10 @@
 -- What `routed` answers, by the checks, the payload and what is decided of the event.
 use mathlib.Core.Path.{_≡_, refl, sym}
 use mathlib.Core.Bool.{true, false}
-use Rattle.composition_state.specs.declared.error.CompositionError.{CompositionError}
-use Rattle.composition_state.specs.declared.error.Outcome.the-variants as composition
+use Rattle.records.specs.declared.error.CompositionError.{CompositionError}
+use Rattle.records.specs.declared.error.Outcome.the-variants as composition
 use Rattle.composition_state.specs.declared.registry.CompositionRegistry.{CompositionRegistry}
-use Rattle.composition_state.specs.declared.trace.CompositionTrace.{CompositionTrace}
+use Rattle.records.specs.declared.trace.CompositionTrace.{CompositionTrace}
 use Rattle.composition_state.specs.Damage.{isSound, damageRefusal}
 use Rattle.composition_arbitration.specs.declared.arbitrate.Decision.{Decision}
 use Rattle.composition_arbitration.specs.Decisions.{decided, resultOf, keptIn}

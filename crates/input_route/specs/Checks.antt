@@ -1,7 +1,7 @@
 -- Document 01, Route: 42, 31, 8/9, 39, 20, then 34 to 38 by payload, 40, 32, 33, 41; all before anything is written.
 use mathlib.Core.Bool.{Bool, not, _&&_}
 use Rattle.composition_state.specs.declared.registry.CompositionRegistry.{CompositionRegistry}
-use Rattle.composition_state.specs.declared.view.ViewTable.{ViewTable}
+use Rattle.records.specs.declared.view.ViewTable.{ViewTable}
 use Rattle.composition_state.specs.Damage.{isSound}
 use Rattle.input_events.specs.declared.error.PlatformInputError.the-variants as error
 use Rattle.input_events.specs.declared.error.RouterOutcome.{RouterOutcome}

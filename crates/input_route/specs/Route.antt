@@ -2,13 +2,13 @@
 use mathlib.Core.Bool.{cond}
 use mathlib.Core.List.{[]}
 use Rattle.lists.specs.Tables.{packed}
-use Rattle.handles.specs.declared.handle.OptionalHandle.{OptionalHandle}
-use Rattle.handles.specs.declared.handle.OptionalHandle.the-variants as O
-use Rattle.composition_state.specs.declared.error.Outcome.{Outcome}
-use Rattle.composition_state.specs.declared.error.Outcome.the-variants as composition
+use Rattle.handles.specs.declared.OptionalHandle.{OptionalHandle}
+use Rattle.handles.specs.declared.OptionalHandle.the-variants as O
+use Rattle.records.specs.declared.error.Outcome.{Outcome}
+use Rattle.records.specs.declared.error.Outcome.the-variants as composition
 use Rattle.composition_state.specs.declared.registry.CompositionRegistry.{CompositionRegistry}
-use Rattle.composition_state.specs.declared.trace.Hits.{Hits}
-use Rattle.composition_state.specs.Traces.{hits}
+use Rattle.records.specs.declared.trace.Hits.{Hits}
+use Rattle.records.specs.Traces.{hits}
 use Rattle.composition_input.specs.declared.answer.OptionalInputState.the-variants as S
 use Rattle.composition_hits.specs.HitTest.{viewHits}
 use Rattle.composition_arbitration.specs.declared.arbitrate.Arbitrated.{Arbitrated}
@@ -27,7 +27,7 @@ use Rattle.input_events.specs.Presses.{pressOf, effectOf, receiverOf}
 use Rattle.input_router.specs.declared.router.PlatformInputRouter.{PlatformInputRouter}
 use Rattle.input_router.specs.Order.{recorded}
 use Rattle.input_router.specs.Presses.{heldBy, opened, ended}
-use Rattle.input_router.specs.ReleaseLists.{releases}
+use Rattle.release_lists.specs.Releases.{releases}
 use Rattle.input_releases.specs.declared.answer.PlatformInputRoutingReport.{PlatformInputRoutingReport}
 use Rattle.input_releases.specs.declared.answer.RouteKind.the-variants as kind
 use Rattle.input_releases.specs.declared.answer.Routed.{Routed}

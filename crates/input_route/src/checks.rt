@@ -1,7 +1,6 @@
 // The checks of an event before anything is written.
 ghost use mathlib.Core.Path.{_≡_};
 ghost use Rattle.input_route.specs.Checks.{roomRefusal, orderRefusal, refusalWith};
-use composition_state::view::ViewTable;
 use input_events::checks::event_refusal;
 use input_events::error::PlatformInputError;
 use input_events::error::RouterOutcome;
@@ -13,6 +12,7 @@ use input_events::presses::effect_of;
 use input_router::order::Order;
 use input_router::router::PlatformInputRouter;
 use lists::both;
+use records::view::ViewTable;
 
 // A press that would open needs room, whether it will have a receiver or not.
 fn room_refusal(router: PlatformInputRouter, event: PlatformInputEvent) -> RouterOutcome
@@ -28,8 +28,7 @@ fn room_refusal(router: PlatformInputRouter, event: PlatformInputEvent) -> Route
 fn order_refusal(router: PlatformInputRouter, header: PlatformInputHeader) -> RouterOutcome
     ensures { λ r. ⌜ r ≡ orderRefusal router header ⌝ }
 {
-    let device = header.device;
-    match router.order_of(device, header.sequence, header.timestamp_micros) {
+    match router.order_of(header.device, header.sequence, header.timestamp_micros) {
         Order::InOrder => RouterOutcome::Accepted,
         Order::InvalidSequence => RouterOutcome::Refused(PlatformInputError::InvalidSequence),
         Order::InvalidTimestamp => RouterOutcome::Refused(PlatformInputError::InvalidTimestamp),
@@ -46,11 +45,10 @@ pub fn route_refusal(
 ) -> RouterOutcome
     ensures { λ r. ⌜ r ≡ refusalWith «is_sound» views router event ⌝ }
 {
-    let header = event.header;
     let sound = both(is_sound, router.is_sound());
     let damaged = refuse_if(!sound, PlatformInputError::Damaged);
     let room = room_refusal(router, event);
-    let order = order_refusal(router, header);
+    let order = order_refusal(router, event.header);
     let own = event_refusal(views, event);
     damaged.then(own.then(room.then(order)))
 }

@@ -9,12 +9,8 @@ use composition_arbitration::arbitrate::with_traces_at;
 use composition_arbitration::trace::push_trace;
 use composition_hits::table::view_hits;
 use composition_input::answer::OptionalInputState;
-use composition_state::error::CompositionError;
-use composition_state::error::Outcome;
-use composition_state::error::refuse_if;
 use composition_state::registry::CompositionRegistry;
-use composition_state::trace::Hits;
-use handles::handle::OptionalHandle;
+use handles::OptionalHandle;
 use input_events::arbitration_event::arbitration_event;
 use input_events::arbitration_event::is_disconnect;
 use input_events::arbitration_event::is_loss;
@@ -34,8 +30,12 @@ use input_releases::answer::Routed;
 use input_releases::answer::refused;
 use input_releases::losses::route_disconnect;
 use input_releases::losses::route_loss;
-use input_router::release_list::Releases;
 use input_router::router::PlatformInputRouter;
+use records::error::CompositionError;
+use records::error::Outcome;
+use records::error::refuse_if;
+use records::trace::Hits;
+use release_lists::releases::Releases;
 
 // The panel that holds the press of an event.
 fn held_for(router: PlatformInputRouter, event: PlatformInputEvent) -> OptionalHandle
@@ -51,11 +51,9 @@ fn held_for(router: PlatformInputRouter, event: PlatformInputEvent) -> OptionalH
 fn hits_for(registry: CompositionRegistry, event: PlatformInputEvent) -> Hits
     ensures { λ r. ⌜ r ≡ hitsFor registry event ⌝ }
 {
-    let header = event.header;
     let payload = event.payload;
-    let view = header.view;
     if needs_hits(payload) {
-        return view_hits(registry, view, point_of(payload));
+        return view_hits(registry, event.header.view, point_of(payload));
     }
     Hits::new()
 }
@@ -94,9 +92,11 @@ fn arbitrated_report(result: ArbitrationResult) -> PlatformInputRoutingReport
 fn record_event(router: PlatformInputRouter, event: PlatformInputEvent) -> PlatformInputRouter
     ensures { λ r. ⌜ r ≡ recordedEvent router event ⌝ }
 {
-    let header = event.header;
-    let device = header.device;
-    router.recorded(device, header.sequence, header.timestamp_micros)
+    router.recorded(
+        event.header.device,
+        event.header.sequence,
+        event.header.timestamp_micros,
+    )
 }
 
 // Sequence and time stay recorded once the checks have passed, whatever the work then refuses.
@@ -108,36 +108,39 @@ pub fn route(
 ) -> Routed
     ensures { λ r. ⌜ r ≡ routed registry router event ⌝ }
 {
-    let header = event.header;
     let payload = event.payload;
-    let device = header.device;
-    let view = header.view;
-    let views = registry.views;
     let sound = registry.is_sound();
-    if let RouterOutcome::Refused(error) = route_refusal(sound, views, router, event) {
+    if let RouterOutcome::Refused(error) = route_refusal(sound, registry.views, router, event) {
         return refused(error, registry, router);
     }
     let recorded = record_event(router, event);
     if is_disconnect(payload) {
-        return route_disconnect(registry, recorded, device);
+        return route_disconnect(registry, recorded, event.header.device);
     }
     if is_loss(payload) {
-        return route_loss(registry, recorded, view);
+        return route_loss(registry, recorded, event.header.view);
     }
     let asked = arbitration_event(event, held_for(recorded, event));
     let damage = refuse_if(!sound, CompositionError::Damaged);
-    let decision = decide(damage, registry, view, asked, hits_for(registry, event));
+    let decision = decide(
+        damage,
+        registry,
+        event.header.view,
+        asked,
+        hits_for(registry, event),
+    );
     let trace = decision.trace;
     let outcome = decision.outcome;
     if let Outcome::Refused(error) = outcome {
         return refused(PlatformInputError::Composition(error), registry, recorded);
     }
     let consumer = trace.consumed_by;
-    let deliveries = trace.deliveries;
-    let limits = registry.limits;
-    let stored = registry.traces;
-    let traces = push_trace(stored, limits.max_trace_entries, trace);
-    let tracked = track(recorded, effect_of(event), receiver(consumer, deliveries));
+    let traces = push_trace(registry.traces, registry.limits.max_trace_entries, trace);
+    let tracked = track(
+        recorded,
+        effect_of(event),
+        receiver(consumer, trace.deliveries),
+    );
     let report = arbitrated_report(result_of(trace));
     let after = with_traces_at(registry, traces, trace.revision);
     Routed {

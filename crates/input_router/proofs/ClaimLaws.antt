@@ -14,8 +14,8 @@ use Rattle.lists.proofs.ListLaws.{by-test, clash, and-both, length-keep}
 use Rattle.lists.proofs.RisingLaws.{Over, Sorted, rising-sorted}
 use Rattle.lists.proofs.TableLaws.{entries-packed}
 use Rattle.handles.specs.Handles.{sameHandle}
-use Rattle.handles.specs.declared.handle.GenerationalHandle.{GenerationalHandle}
-use Rattle.handles.specs.declared.handle.OptionalHandle.the-variants as O
+use Rattle.handles.specs.declared.GenerationalHandle.{GenerationalHandle}
+use Rattle.handles.specs.declared.OptionalHandle.the-variants as O
 use Rattle.handles.proofs.HandleLaws.{handles}
 use Rattle.maps.specs.Keys.{keyLt, keySame, bindingKey, deviceKey}
 use Rattle.maps.specs.MapTables.{accepts, inserted, retained}
@@ -26,9 +26,9 @@ use Rattle.maps.specs.declared.keys.InputDeviceId.{InputDeviceId}
 use Rattle.maps.specs.declared.bindings.Binding.{Binding}
 use Rattle.maps.specs.declared.sequences.DeviceSequence.{DeviceSequence}
 use Rattle.maps.proofs.MapTableLaws as maps
-use Rattle.composition_state.specs.declared.error.CompositionError.{CompositionError}
-use Rattle.composition_state.specs.declared.error.Outcome.the-variants.{Accepted, Refused}
-use Rattle.composition_state.specs.declared.surface.SurfaceTable.{SurfaceTable}
+use Rattle.records.specs.declared.error.CompositionError.{CompositionError}
+use Rattle.records.specs.declared.error.Outcome.the-variants.{Accepted, Refused}
+use Rattle.records.specs.declared.surface.SurfaceTable.{SurfaceTable}
 use Rattle.input_router.specs.declared.order.Order.the-variants as order
 use Rattle.input_router.specs.declared.router.PlatformInputRouter.{PlatformInputRouter}
 use Rattle.input_router.specs.declared.view_releases.OptionalPress.the-variants.{None, Some}
@@ -36,12 +36,12 @@ use Rattle.input_router.specs.Router.{isStarted, startOutcome, emptyRout
 use Rattle.input_router.specs.Damage.{isRouterSound}
 use Rattle.input_router.specs.Order.{sequenceEntry, hasPlace, lastOf, isOld, orderOf, recorded}
 use Rattle.input_router.specs.Presses.{press, heldBy, hasRoom, opened, ended}
-use Rattle.input_router.specs.ReleaseLists.{releases, isOn, byPanel}
+use Rattle.release_lists.specs.Releases.{releases, isOn, byPanel}
 use Rattle.input_router.specs.Releases.{isOfDevice, releaseSurface, releaseAll, withoutDevicePresses, withoutDevice}
 use Rattle.input_router.specs.ViewReleases.{kindOf, isClosed, pressOf, firstClosed, closedRefusal, isOfView, isTaken, releaseView}
 use Rattle.input_router.specs.Claims.{RouterClaims}
-use Rattle.input_router.proofs.KeepLaws.{keep-in, keep-apart}
-use Rattle.input_router.proofs.ReleaseListLaws.{by-panel-length, by-panel-keeps, by-panel-ordered, presses-first, captures-listed}
+use Rattle.release_lists.proofs.KeepLaws.{keep-in, keep-apart}
+use Rattle.release_lists.proofs.ReleaseLaws.{by-panel-length, by-panel-keeps, by-panel-ordered, presses-first, captures-listed}
 use Rattle.input_router.proofs.SoundLaws as sound
 
 start-sound : (n : ℕ) → isRouterSound (started n .router) ≡ isStarted (startOutcome n)

@@ -22,7 +22,7 @@ use Rattle.maps.specs.declared.bindings.Binding.{Binding}
 use Rattle.maps.specs.declared.keys.BindingKey.{BindingKey}
 use Rattle.maps.specs.declared.sequences.DeviceSequence.{DeviceSequence}
 use Rattle.maps.proofs.MapTableLaws as maps
-use Rattle.handles.specs.declared.handle.GenerationalHandle.{GenerationalHandle}
+use Rattle.handles.specs.declared.GenerationalHandle.{GenerationalHandle}
 use Rattle.input_router.specs.declared.router.PlatformInputRouter.{PlatformInputRouter}
 use Rattle.input_router.specs.Router.{isStarted, startOutcome, emptyRouter, withBindings, withSequences, withTimestamp, pressesOf}
 use Rattle.input_router.specs.Damage.{limitSound, countsSound, keysSound, isRouterSound}

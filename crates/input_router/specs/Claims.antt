@@ -8,8 +8,8 @@ use lib.ListN.{length}
 use Rattle.lists.specs.Lists.{keep, all}
 use Rattle.lists.specs.Tables.{entriesOf, packed}
 use Rattle.handles.specs.Handles.{sameHandle}
-use Rattle.handles.specs.declared.handle.GenerationalHandle.{GenerationalHandle}
-use Rattle.handles.specs.declared.handle.OptionalHandle.the-variants as O
+use Rattle.handles.specs.declared.GenerationalHandle.{GenerationalHandle}
+use Rattle.handles.specs.declared.OptionalHandle.the-variants as O
 use Rattle.maps.specs.Keys.{bindingKey, keySame}
 use Rattle.maps.specs.MapTables.{inserted, retained}
 use Rattle.maps.specs.Bindings.{bindings}
@@ -18,9 +18,9 @@ use Rattle.maps.specs.declared.keys.BindingKey.{BindingKey}
 use Rattle.maps.specs.declared.keys.InputDeviceId.{InputDeviceId}
 use Rattle.maps.specs.declared.bindings.Binding.{Binding}
 use Rattle.maps.specs.declared.captures.Capture.{Capture}
-use Rattle.composition_state.specs.declared.error.CompositionError.{CompositionError}
-use Rattle.composition_state.specs.declared.error.Outcome.the-variants.{Accepted, Refused}
-use Rattle.composition_state.specs.declared.surface.SurfaceTable.{SurfaceTable}
+use Rattle.records.specs.declared.error.CompositionError.{CompositionError}
+use Rattle.records.specs.declared.error.Outcome.the-variants.{Accepted, Refused}
+use Rattle.records.specs.declared.surface.SurfaceTable.{SurfaceTable}
 use Rattle.input_router.specs.declared.order.Order.the-variants.{InOrder}
 use Rattle.input_router.specs.declared.router.PlatformInputRouter.{PlatformInputRouter}
 use Rattle.input_router.specs.declared.view_releases.OptionalPress.the-variants.{Some}
@@ -28,7 +28,7 @@ use Rattle.input_router.specs.Router.{isStarted, startOutcome, started, 
 use Rattle.input_router.specs.Damage.{isRouterSound}
 use Rattle.input_router.specs.Order.{sequenceEntry, orderOf, recorded}
 use Rattle.input_router.specs.Presses.{heldBy, hasRoom, opened, ended}
-use Rattle.input_router.specs.ReleaseLists.{releases, isOn, inPanelOrder, isListed, addCaptures}
+use Rattle.release_lists.specs.Releases.{releases, isOn, inPanelOrder, isListed, addCaptures}
 use Rattle.input_router.specs.Releases.{releaseSurface, releaseAll, withoutDevicePresses, withoutDevice}
 use Rattle.input_router.specs.ViewReleases.{kindOf, isClosed, firstClosed, isOfView, releaseView}
 

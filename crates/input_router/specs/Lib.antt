@@ -2,7 +2,6 @@ pub mod Router
 pub mod Damage
 pub mod Order
 pub mod Presses
-pub mod ReleaseLists
 pub mod Releases
 pub mod ViewReleases
 pub mod Claims

@@ -2,8 +2,8 @@
 use mathlib.Core.Bool.{Bool, _||_}
 use lib.Dec.{ltb}
 use lib.ListN.{length}
-use Rattle.handles.specs.declared.handle.GenerationalHandle.{GenerationalHandle}
-use Rattle.handles.specs.declared.handle.OptionalHandle.{OptionalHandle}
+use Rattle.handles.specs.declared.GenerationalHandle.{GenerationalHandle}
+use Rattle.handles.specs.declared.OptionalHandle.{OptionalHandle}
 use Rattle.maps.specs.Keys.{bindingKey}
 use Rattle.maps.specs.MapTables.{isSome, found, removed}
 use Rattle.maps.specs.Bindings.{bindings, keyOfBinding, surfaceOf, insertionOf}

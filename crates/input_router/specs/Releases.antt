@@ -3,7 +3,7 @@ use mathlib.Core.Bool.{Bool, true, false, cond, not}
 use mathlib.Core.List.{List, []}
 use Rattle.lists.specs.Lists.{keep}
 use Rattle.lists.specs.Tables.{packed}
-use Rattle.handles.specs.declared.handle.GenerationalHandle.{GenerationalHandle}
+use Rattle.handles.specs.declared.GenerationalHandle.{GenerationalHandle}
 use Rattle.maps.specs.Keys.{deviceKey, deviceSame}
 use Rattle.maps.specs.MapTables.{retained, removed}
 use Rattle.maps.specs.Bindings.{bindings, keyOfBinding}
@@ -15,7 +15,7 @@ use Rattle.input_router.specs.declared.releases.Released.{Released}
 use Rattle.input_router.specs.declared.router.PlatformInputRouter.{PlatformInputRouter}
 use Rattle.input_router.specs.Router.{emptyRouter, withBindings, withSequences, pressesOf}
 use Rattle.input_router.specs.Damage.{isRouterSound}
-use Rattle.input_router.specs.ReleaseLists.{releases, isOn, byPanel}
+use Rattle.release_lists.specs.Releases.{releases, isOn, byPanel}
 
 -- a list of releases, and the router without its presses
 abbrev pub released : List Binding → PlatformInputRouter → Released

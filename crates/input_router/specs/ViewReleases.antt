@@ -7,14 +7,14 @@ use lib.Dec.{ltb}
 use Rattle.lists.specs.Lists.{keep, first}
 use Rattle.lists.specs.Tables.{packed}
 use Rattle.handles.specs.Handles.{sameHandle}
-use Rattle.handles.specs.declared.handle.GenerationalHandle.{GenerationalHandle}
+use Rattle.handles.specs.declared.GenerationalHandle.{GenerationalHandle}
 use Rattle.maps.specs.Bindings.{bindings, keyOfBinding}
 use Rattle.maps.specs.declared.bindings.Binding.{Binding}
-use Rattle.composition_state.specs.Errors.{isAccepted}
-use Rattle.composition_state.specs.Surfaces.{descriptorOf, surfaceRefusal}
-use Rattle.composition_state.specs.declared.error.Outcome.{Outcome}
-use Rattle.composition_state.specs.declared.error.Outcome.the-variants.{Accepted}
-use Rattle.composition_state.specs.declared.surface.SurfaceTable.{SurfaceTable}
+use Rattle.records.specs.Errors.{isAccepted}
+use Rattle.records.specs.Surfaces.{descriptorOf, surfaceRefusal}
+use Rattle.records.specs.declared.error.Outcome.{Outcome}
+use Rattle.records.specs.declared.error.Outcome.the-variants.{Accepted}
+use Rattle.records.specs.declared.surface.SurfaceTable.{SurfaceTable}
 use Rattle.input_router.specs.declared.router.PlatformInputRouter.{PlatformInputRouter}
 use Rattle.input_router.specs.declared.view_releases.OptionalPress.{OptionalPress}
 use Rattle.input_router.specs.declared.view_releases.OptionalPress.the-variants.{None, Some}

@@ -10,12 +10,10 @@ impl PlatformInputRouter {
         ensures { λ r. ⌜ r ≡ isRouterSound self ⌝ }
     {
         let limit = self.max_active_bindings;
-        let bindings = self.bindings;
-        let sequences = self.device_sequences;
         let allowed = start_outcome(limit).is_accepted();
-        let in_table = both(bindings.len <= 128, sequences.len <= 32);
-        let counted = both(in_table, (bindings.len as u64) <= limit);
-        let rising = both(bindings.is_rising(), sequences.is_rising());
+        let in_table = both(self.bindings.len <= 128, self.device_sequences.len <= 32);
+        let counted = both(in_table, (self.bindings.len as u64) <= limit);
+        let rising = both(self.bindings.is_rising(), self.device_sequences.is_rising());
         both(allowed, both(counted, rising))
     }
 }

@@ -2,7 +2,6 @@
 pub mod damage;
 pub mod order;
 pub mod presses;
-pub mod release_list;
 pub mod releases;
 pub mod router;
 pub mod view_releases;

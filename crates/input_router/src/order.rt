@@ -45,17 +45,16 @@ impl PlatformInputRouter {
     pub fn order_of(self, device: InputDeviceId, sequence: u64, timestamp_micros: u64) -> Order
         ensures { λ r. ⌜ r ≡ orderOf self device sequence «timestamp_micros» ⌝ }
     {
-        let known = self.device_sequences;
         if sequence == 0 {
             return Order::InvalidSequence;
         }
-        if is_old(known.get(device), sequence) {
+        if is_old(self.device_sequences.get(device), sequence) {
             return Order::InvalidSequence;
         }
         if timestamp_micros < self.last_timestamp_micros {
             return Order::InvalidTimestamp;
         }
-        if has_place(known, device) {
+        if has_place(self.device_sequences, device) {
             return Order::InOrder;
         }
         Order::PortLimit
@@ -65,8 +64,8 @@ impl PlatformInputRouter {
     pub fn recorded(self, device: InputDeviceId, sequence: u64, timestamp_micros: u64) -> Self
         ensures { λ r. ⌜ r ≡ recorded self device sequence «timestamp_micros» ⌝ }
     {
-        let known = self.device_sequences;
-        let insertion = known.insert(DeviceSequence { device, sequence });
+        let insertion = self.device_sequences
+            .insert(DeviceSequence { device, sequence });
         if insertion.inserted {
             let sequences = insertion.sequences;
             return self.with_sequences(sequences)

@@ -2,8 +2,8 @@
 ghost use mathlib.Core.Path.{_≡_};
 ghost use Rattle.input_router.specs.Presses.{heldBy, hasRoom, opened, ended};
 use crate::router::PlatformInputRouter;
-use handles::handle::GenerationalHandle;
-use handles::handle::OptionalHandle;
+use handles::GenerationalHandle;
+use handles::OptionalHandle;
 use maps::bindings::Binding;
 use maps::keys::BindingKey;
 
@@ -12,19 +12,17 @@ impl PlatformInputRouter {
     pub fn held(self, key: BindingKey) -> OptionalHandle
         ensures { λ r. ⌜ r ≡ heldBy self key ⌝ }
     {
-        let bindings = self.bindings;
-        bindings.get(key)
+        self.bindings.get(key)
     }
 
     // Whether the press is open already, or one more may be opened.
     pub fn has_room(self, key: BindingKey) -> bool
         ensures { λ r. ⌜ r ≡ hasRoom self key ⌝ }
     {
-        let bindings = self.bindings;
-        let holder = bindings.get(key);
+        let holder = self.bindings.get(key);
         match holder {
             OptionalHandle::Some(_) => true,
-            OptionalHandle::None => (bindings.count() as u64) < self.max_active_bindings,
+            OptionalHandle::None => (self.bindings.count() as u64) < self.max_active_bindings,
         }
     }
 
@@ -32,8 +30,7 @@ impl PlatformInputRouter {
     pub fn opened(self, key: BindingKey, surface: GenerationalHandle) -> Self
         ensures { λ r. ⌜ r ≡ opened self key surface ⌝ }
     {
-        let bindings = self.bindings;
-        let insertion = bindings.insert(Binding { key, surface });
+        let insertion = self.bindings.insert(Binding { key, surface });
         let next = insertion.bindings;
         self.with_bindings(next)
     }
@@ -41,7 +38,6 @@ impl PlatformInputRouter {
     pub fn ended(self, key: BindingKey) -> Self
         ensures { λ r. ⌜ r ≡ ended self key ⌝ }
     {
-        let bindings = self.bindings;
-        self.with_bindings(bindings.remove(key))
+        self.with_bindings(self.bindings.remove(key))
     }
 }

@@ -1,15 +1,15 @@
 // Releases by the router: of a panel, of all panels, of a device.
 ghost use mathlib.Core.Path.{_≡_};
 ghost use Rattle.input_router.specs.Releases.{releaseSurface, releaseAll, devicePresses, withoutDevicePresses, withoutDevice};
-use crate::release_list::Releases;
-use crate::release_list::by_panel;
 use crate::router::PlatformInputRouter;
-use handles::handle::GenerationalHandle;
+use handles::GenerationalHandle;
 use maps::bindings::Bindings;
 use maps::keys::InputDeviceId;
 use maps::sequences::DeviceSequences;
 use maps::tests::EntryTest;
 use maps::tests::KeyTest;
+use release_lists::releases::Releases;
+use release_lists::releases::by_panel;
 
 // The answer of a router release: a damaged router is refused and stays as it came.
 pub struct Released {
@@ -24,9 +24,8 @@ impl PlatformInputRouter {
         ensures { λ r. ⌜ r ≡ releaseSurface self surface ⌝ }
     {
         if self.is_sound() {
-            let bindings = self.bindings;
-            let taken = bindings.retain(EntryTest::OnSurface(surface));
-            let left = bindings.retain(EntryTest::NotOnSurface(surface));
+            let taken = self.bindings.retain(EntryTest::OnSurface(surface));
+            let left = self.bindings.retain(EntryTest::NotOnSurface(surface));
             let releases = Releases::of_presses(taken);
             let router = self.with_bindings(left);
             return Released {
@@ -48,8 +47,7 @@ impl PlatformInputRouter {
         ensures { λ r. ⌜ r ≡ releaseAll self ⌝ }
     {
         if self.is_sound() {
-            let bindings = self.bindings;
-            let releases = by_panel(bindings);
+            let releases = by_panel(self.bindings);
             let emptied = self.with_bindings(Bindings::new());
             let unknown = emptied.with_sequences(DeviceSequences::new());
             let router = unknown.with_timestamp(0);
@@ -71,23 +69,24 @@ impl PlatformInputRouter {
     pub fn device_presses(self, device: InputDeviceId) -> Bindings
         ensures { λ r. ⌜ r ≡ devicePresses self device ⌝ }
     {
-        let bindings = self.bindings;
-        bindings.retain(EntryTest::Key(KeyTest::OfDevice(device)))
+        self.bindings
+            .retain(EntryTest::Key(KeyTest::OfDevice(device)))
     }
 
     pub fn without_device_presses(self, device: InputDeviceId) -> Self
         ensures { λ r. ⌜ r ≡ withoutDevicePresses self device ⌝ }
     {
-        let bindings = self.bindings;
-        self.with_bindings(bindings.retain(EntryTest::Key(KeyTest::NotOfDevice(device))))
+        self.with_bindings(
+            self.bindings
+                .retain(EntryTest::Key(KeyTest::NotOfDevice(device))),
+        )
     }
 
     // The router without the presses and the sequence number of a device; the time stays.
     pub fn without_device(self, device: InputDeviceId) -> Self
         ensures { λ r. ⌜ r ≡ withoutDevice self device ⌝ }
     {
-        let sequences = self.device_sequences;
         self.without_device_presses(device)
-            .with_sequences(sequences.remove(device))
+            .with_sequences(self.device_sequences.remove(device))
     }
 }

@@ -114,7 +114,6 @@ impl PlatformInputRouter {
     pub fn active_binding_count(self) -> usize
         ensures { λ r. ⌜ r ≡ length (pressesOf self) ⌝ }
     {
-        let bindings = self.bindings;
-        bindings.count()
+        self.bindings.count()
     }
 }

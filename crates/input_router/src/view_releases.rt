@@ -7,14 +7,14 @@ ghost use Rattle.lists.specs.Tables.{entriesOf, packed, pushed};
 ghost use Rattle.maps.specs.Bindings.{bindings};
 ghost use Rattle.input_router.specs.ViewReleases.{kindOf, isClosed, firstClosed, closedRefusal, isReached, isTaken, releaseView};
 use crate::router::PlatformInputRouter;
-use composition_state::error::Outcome;
-use composition_state::surface::SurfaceTable;
-use handles::handle::GenerationalHandle;
-use handles::handle::same_handle;
+use handles::GenerationalHandle;
+use handles::same_handle;
 use lists::both;
 use maps::bindings::Binding;
 use maps::bindings::Bindings;
 use maps::keys::binding_key;
+use records::error::Outcome;
+use records::surface::SurfaceTable;
 
 pub enum OptionalPress {
     None,
@@ -39,8 +39,7 @@ fn kind_of(press: Binding) -> u32
 fn is_closed(surfaces: SurfaceTable, press: Binding) -> bool
     ensures { λ r. ⌜ r ≡ isClosed surfaces press ⌝ }
 {
-    let surface = press.surface;
-    let refusal = surfaces.refusal(surface);
+    let refusal = surfaces.refusal(press.surface);
     !refusal.is_accepted()
 }
 
@@ -64,10 +63,7 @@ fn closed_refusal(surfaces: SurfaceTable, stop: OptionalPress) -> Outcome
 {
     match stop {
         OptionalPress::None => Outcome::Accepted,
-        OptionalPress::Some(press) => {
-            let surface = press.surface;
-            surfaces.refusal(surface)
-        }
+        OptionalPress::Some(press) => surfaces.refusal(press.surface),
     }
 }
 
@@ -88,10 +84,8 @@ fn is_taken(
 ) -> bool
     ensures { λ r. ⌜ r ≡ isTaken surfaces view stop press ⌝ }
 {
-    let surface = press.surface;
-    let descriptor = surfaces.descriptor(surface);
-    let owner = descriptor.view;
-    both(is_reached(stop, press), same_handle(owner, view))
+    let descriptor = surfaces.descriptor(press.surface);
+    both(is_reached(stop, press), same_handle(descriptor.view, view))
 }
 
 // Whether a press is among those taken, or among those left.
@@ -149,13 +143,12 @@ impl PlatformInputRouter {
     pub fn release_view(self, surfaces: SurfaceTable, view: GenerationalHandle) -> ViewReleased
         ensures { λ r. ⌜ r ≡ releaseView self surfaces view ⌝ }
     {
-        let bindings = self.bindings;
-        let stop = first_closed(bindings, surfaces);
+        let stop = first_closed(self.bindings, surfaces);
         let outcome = closed_refusal(surfaces, stop);
-        let left = view_part(bindings, surfaces, view, stop, false);
+        let left = view_part(self.bindings, surfaces, view, stop, false);
         let router = self.with_bindings(left);
         if outcome.is_accepted() {
-            let presses = view_part(bindings, surfaces, view, stop, true);
+            let presses = view_part(self.bindings, surfaces, view, stop, true);
             return ViewReleased {
                 outcome,
                 presses,

@@ -1,5 +1,5 @@
 -- A map as the list of its entries. `key` gives an entry's key; `lt` and `same` are the tests of two keys.
-use mathlib.Core.Bool.{Bool, true, false, not, _&&_}
+use mathlib.Core.Bool.{Bool, true, not, _&&_}
 use mathlib.Core.List.{List, [], _∷_, _++_}
 use mathlib.Core.Option.{Option}
 use Rattle.lists.specs.Lists.{keep, first}

@@ -1,5 +1,4 @@
 -- The claims about the maps and their keys: the laws of maps at each kind of entry, and each key made again from its numbers.
-use Prim.Native.Nat.{ℕ}
 use mathlib.Core.Path.{_≡_, refl, ap}
 use native.Mathlib.Omega.{arith}
 use Rattle.maps.specs.declared.keys.CompositionPointerId.{CompositionPointerId}
@@ -7,7 +6,7 @@ use Rattle.maps.specs.declared.keys.InputDeviceId.{InputDeviceId}
 use Rattle.maps.specs.declared.keys.BindingKey.{BindingKey}
 use Rattle.maps.specs.declared.keys.BindingKey.the-variants.{Pointer, Key, Gamepad}
 use Rattle.maps.specs.declared.keys.MapKey.{MapKey}
-use Rattle.maps.specs.Keys.{pointerKey, deviceKey, bindingKey}
+use Rattle.maps.specs.Keys.{bindingKey}
 use Rattle.maps.specs.Captures.{captureKey}
 use Rattle.maps.specs.Sequences.{sequenceKey}
 use Rattle.maps.specs.Bindings.{keyOfBinding}

@@ -3,8 +3,8 @@ use mathlib.Core.Path.{refl}
 use mathlib.Core.Bool.{Bool, true, false, cond}
 use mathlib.Core.Option.{Option, none, some}
 use Rattle.handles.specs.Handles.{handleOf}
-use Rattle.handles.specs.declared.handle.OptionalHandle.{OptionalHandle}
-use Rattle.handles.specs.declared.handle.OptionalHandle.the-variants as O
+use Rattle.handles.specs.declared.OptionalHandle.{OptionalHandle}
+use Rattle.handles.specs.declared.OptionalHandle.the-variants as O
 use Rattle.lists.specs.Tables.{Shape}
 use Rattle.maps.specs.declared.keys.MapKey.{MapKey}
 use Rattle.maps.specs.declared.captures.Capture.{Capture}

@@ -1,5 +1,4 @@
 -- A map in a table of any shape: what each call on it answers, over its entries.
-use Prim.Native.Nat.{ℕ}
 use mathlib.Core.Bool.{Bool, true, false, _||_}
 use mathlib.Core.Option.{Option, none, some}
 use lib.ListN.{length}

@@ -1,6 +1,6 @@
 -- Which entries of a map a pass over it keeps.
 use mathlib.Core.Bool.{Bool, not}
-use Rattle.handles.specs.declared.handle.GenerationalHandle.{GenerationalHandle}
+use Rattle.handles.specs.declared.GenerationalHandle.{GenerationalHandle}
 use Rattle.handles.specs.Handles.{sameHandle}
 use Rattle.maps.specs.declared.keys.MapKey.{MapKey}
 use Rattle.maps.specs.declared.tests.KeyTest.{KeyTest}

@@ -1,7 +1,7 @@
 // Which entries of a map a pass over it keeps.
 use crate::keys::InputDeviceId;
 use crate::keys::MapKey;
-use handles::handle::GenerationalHandle;
+use handles::GenerationalHandle;
 ghost use mathlib.Core.Path.{_≡_};
 ghost use Rattle.maps.specs.Tests.{keyPasses, entryPasses};
 
@@ -38,7 +38,7 @@ pub fn entry_passes(key: MapKey, surface: GenerationalHandle, test: EntryTest) -
 {
     match test {
         EntryTest::Key(t) => key_passes(key, t),
-        EntryTest::OnSurface(h) => handles::handle::same_handle(h, surface),
-        EntryTest::NotOnSurface(h) => !handles::handle::same_handle(h, surface),
+        EntryTest::OnSurface(h) => handles::same_handle(h, surface),
+        EntryTest::NotOnSurface(h) => !handles::same_handle(h, surface),
     }
 }

@@ -6,7 +6,7 @@ use native.Mathlib.Omega.{arith}
 use lib.ListN.{length, drop, replicate}
 use Rattle.lists.specs.Tables.{packed}
 use Rattle.geometry.specs.declared.transform.Point.{Point}
-use Rattle.handles.specs.declared.handle.GenerationalHandle.{GenerationalHandle}
+use Rattle.handles.specs.declared.GenerationalHandle.{GenerationalHandle}
 use Rattle.composition_state.specs.declared.registry.CompositionRegistry.{CompositionRegistry}
 use Rattle.composition_hits.specs.declared.stack.HitTest.{HitTest}
 use Rattle.composition_hits.specs.Buffer.{written}

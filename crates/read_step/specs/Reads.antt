@@ -6,9 +6,9 @@ use lib.ListN.{length}
 use Rattle.lists.specs.Tables.{Shape, packed}
 use Rattle.geometry.specs.declared.transform.Point.{Point}
 use Rattle.geometry.specs.Transform.{inversePoint}
-use Rattle.handles.specs.declared.handle.GenerationalHandle.{GenerationalHandle}
-use Rattle.composition_state.specs.declared.error.Outcome.{Outcome}
-use Rattle.composition_state.specs.declared.error.Outcome.the-variants.{Accepted, Refused}
+use Rattle.handles.specs.declared.GenerationalHandle.{GenerationalHandle}
+use Rattle.records.specs.declared.error.Outcome.{Outcome}
+use Rattle.records.specs.declared.error.Outcome.the-variants.{Accepted, Refused}
 use Rattle.composition_state.specs.declared.registry.CompositionRegistry.{CompositionRegistry}
 use Rattle.composition_hits.specs.HitTest.{hitTestRefusal, hitNumbers}
 use Rattle.composition_reads.specs.Reads.{viewWindow, viewMetrics, viewInputState, viewPointerCaptures, viewLayers, surfaceDescriptor}

@@ -8,11 +8,11 @@ use composition_reads::revision;
 use composition_reads::session;
 use composition_reads::session_epoch;
 use composition_state::registry::CompositionRegistry;
-use composition_state::surface::SurfaceDescriptor;
-use composition_state::view::ViewInputState;
 use geometry::metrics::ViewMetrics;
 use geometry::transform::LocalPoint;
-use handles::handle::GenerationalHandle;
+use handles::GenerationalHandle;
+use records::surface::SurfaceDescriptor;
+use records::view::ViewInputState;
 
 // The plain read-outs of a registry, together.
 pub struct Counts {

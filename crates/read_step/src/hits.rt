@@ -5,10 +5,10 @@ ghost use Rattle.lists.specs.Tables.{packed};
 ghost use Rattle.composition_hits.specs.HitTest.{hitNumbers};
 ghost use Rattle.read_step.specs.Reads.{hitTable, hitsIf};
 use composition_hits::stack::hit_test_into;
-use composition_state::error::Outcome;
 use composition_state::registry::CompositionRegistry;
 use geometry::transform::Point;
-use handles::handle::GenerationalHandle;
+use handles::GenerationalHandle;
+use records::error::Outcome;
 
 // Index, then generation of each hit, topmost first.
 pub struct HitNumbers {

@@ -15,9 +15,9 @@ use composition_reads::view_layers;
 use composition_reads::view_metrics;
 use composition_reads::view_pointer_captures;
 use composition_reads::view_window;
-use composition_state::error::Outcome;
 use composition_state::registry::CompositionRegistry;
 use input_router::router::PlatformInputRouter;
+use records::error::Outcome;
 
 pub struct ReadStepped {
     pub outcome: Outcome,
@@ -48,13 +48,11 @@ fn read(outcome: Outcome, shown: Shown) -> ReadStepped
 fn read_hits(registry: CompositionRegistry, given: HitTestArguments) -> ReadStepped
     ensures { λ r. ⌜ r ≡ hitRead registry given ⌝ }
 {
-    let view = given.view;
-    let point = given.point;
-    let outcome = hit_test_refusal(registry, view, given.length as usize);
+    let outcome = hit_test_refusal(registry, given.view, given.length as usize);
     ReadStepped {
         outcome,
         shown: shown_if(outcome, Shown::Hits),
-        hits: hits_if(outcome, registry, view, point),
+        hits: hits_if(outcome, registry, given.view, given.point),
     }
 }
 

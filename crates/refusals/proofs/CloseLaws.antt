@@ -8,16 +8,16 @@ use Rattle.lists.proofs.ListLaws.{and-left, and-right}
 use Rattle.handles.specs.Slots.{released}
 use Rattle.handles.specs.declared.arena.ReleaseOutcome.{ReleaseOutcome}
 use Rattle.handles.specs.declared.arena.ReleaseOutcome.the-variants as release
-use Rattle.handles.specs.declared.handle.GenerationalHandle.{GenerationalHandle}
-use Rattle.composition_state.specs.declared.error.CompositionError.{CompositionError}
-use Rattle.composition_state.specs.declared.error.CompositionError.the-variants.{InvalidView, StaleView, InvalidSurface, StaleSurface, Damaged}
-use Rattle.composition_state.specs.declared.error.Outcome.{Outcome}
-use Rattle.composition_state.specs.declared.error.Outcome.the-variants.{Accepted, Refused}
+use Rattle.handles.specs.declared.GenerationalHandle.{GenerationalHandle}
+use Rattle.records.specs.declared.error.CompositionError.{CompositionError}
+use Rattle.records.specs.declared.error.CompositionError.the-variants.{InvalidView, StaleView, InvalidSurface, StaleSurface, Damaged}
+use Rattle.records.specs.declared.error.Outcome.{Outcome}
+use Rattle.records.specs.declared.error.Outcome.the-variants.{Accepted, Refused}
 use Rattle.composition_state.specs.Damage.{isSound}
-use Rattle.composition_state.specs.Errors.{errorNumber}
+use Rattle.records.specs.Errors.{errorNumber}
 use Rattle.composition_state.specs.Registry.{advanced, settled}
-use Rattle.composition_state.specs.Surfaces.{surfaceStatus}
-use Rattle.composition_state.specs.Views.{viewStatus}
+use Rattle.records.specs.Surfaces.{surfaceStatus}
+use Rattle.records.specs.Views.{viewStatus}
 use Rattle.composition_panels.specs.Windows.{exhaustedRefusal}
 use Rattle.composition_close.specs.Close.{closeRefusal, detached, closedPanel, closeSettled, closeAfter, closeSurface}
 use Rattle.composition_close.specs.Detach.{ownView}

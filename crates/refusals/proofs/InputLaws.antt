@@ -8,21 +8,21 @@ use borrow.Author.Tests.{not-true}
 use Rattle.lists.specs.Lists.{all}
 use Rattle.lists.specs.Tables.{entriesOf}
 use Rattle.handles.specs.Handles.{sameHandle, holdsHandle}
-use Rattle.handles.specs.declared.handle.GenerationalHandle.{GenerationalHandle}
-use Rattle.handles.specs.declared.handle.OptionalHandle.{OptionalHandle}
-use Rattle.handles.specs.declared.handle.OptionalHandle.the-variants.{None, Some}
+use Rattle.handles.specs.declared.GenerationalHandle.{GenerationalHandle}
+use Rattle.handles.specs.declared.OptionalHandle.{OptionalHandle}
+use Rattle.handles.specs.declared.OptionalHandle.the-variants.{None, Some}
 use Rattle.maps.specs.Captures.{captures, captureKey, surfaceOf}
 use Rattle.maps.specs.Keys.{pointerValid, pointerKey}
 use Rattle.maps.specs.MapTables.{found, accepts}
 use Rattle.maps.specs.declared.keys.CompositionPointerId.{CompositionPointerId}
-use Rattle.composition_state.specs.declared.error.CompositionError.{CompositionError}
-use Rattle.composition_state.specs.declared.error.CompositionError.the-variants.{Capacity, WrongView, NotInteractive, TextUnsupported, PortLimit}
-use Rattle.composition_state.specs.declared.error.Outcome.{Outcome}
-use Rattle.composition_state.specs.declared.error.Outcome.the-variants.{Accepted, Refused}
+use Rattle.records.specs.declared.error.CompositionError.{CompositionError}
+use Rattle.records.specs.declared.error.CompositionError.the-variants.{Capacity, WrongView, NotInteractive, TextUnsupported, PortLimit}
+use Rattle.records.specs.declared.error.Outcome.{Outcome}
+use Rattle.records.specs.declared.error.Outcome.the-variants.{Accepted, Refused}
 use Rattle.composition_state.specs.declared.registry.CompositionRegistry.{CompositionRegistry}
-use Rattle.composition_state.specs.Errors.{errorNumber}
+use Rattle.records.specs.Errors.{errorNumber}
 use Rattle.composition_state.specs.Registry.{settled, answered}
-use Rattle.composition_state.specs.Surfaces.{descriptorOf}
+use Rattle.records.specs.Surfaces.{descriptorOf}
 use Rattle.composition_input.specs.Captures.{primary, capture, ownRecord, captureRefusal, capturePointerFor, ownerRefusal, releaseForRefusal, releasePointerFor, releaseRefusal, releasePointer, deviceCaptures, deviceRefusal, releaseDevicePointerCaptures}
 use Rattle.composition_input.specs.Focus.{described, ownView, focusTargetRefusal, focusRefusal, setFocus, beginImeRefusal, beginIme, endImeRefusal, endIme, suspendRefusal, suspendViewInput}
 use Rattle.composition_shortcuts.specs.declared.register.Registrations.{Registrations}

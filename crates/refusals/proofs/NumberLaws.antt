@@ -8,17 +8,17 @@ use Rattle.handles.specs.declared.arena.ReleaseOutcome.{ReleaseOutcome}
 use Rattle.handles.specs.declared.arena.ReleaseOutcome.the-variants as release
 use Rattle.handles.specs.declared.arena.SlotStatus.{SlotStatus}
 use Rattle.handles.specs.declared.arena.SlotStatus.the-variants.{Live, Invalid, Stale}
-use Rattle.handles.specs.declared.handle.GenerationalHandle.{GenerationalHandle}
-use Rattle.composition_state.specs.declared.error.CompositionError.{CompositionError}
-use Rattle.composition_state.specs.declared.error.CompositionError.the-variants.{InvalidWindow, StaleWindow, InvalidView, StaleView, InvalidSurface, StaleSurface, NotInteractive, RevisionConflict, Damaged}
-use Rattle.composition_state.specs.declared.error.Outcome.{Outcome}
-use Rattle.composition_state.specs.declared.error.Outcome.the-variants.{Accepted, Refused}
+use Rattle.handles.specs.declared.GenerationalHandle.{GenerationalHandle}
+use Rattle.records.specs.declared.error.CompositionError.{CompositionError}
+use Rattle.records.specs.declared.error.CompositionError.the-variants.{InvalidWindow, StaleWindow, InvalidView, StaleView, InvalidSurface, StaleSurface, NotInteractive, RevisionConflict, Damaged}
+use Rattle.records.specs.declared.error.Outcome.{Outcome}
+use Rattle.records.specs.declared.error.Outcome.the-variants.{Accepted, Refused}
 use Rattle.composition_state.specs.declared.registry.CompositionRegistry.{CompositionRegistry}
 use Rattle.composition_state.specs.Damage.{isSound, damageRefusal}
-use Rattle.composition_state.specs.Errors.{errorNumber, thenRefusal, refusalIf, statusRefusal}
+use Rattle.records.specs.Errors.{errorNumber, thenRefusal, refusalIf, statusRefusal}
 use Rattle.composition_state.specs.Registry.{windowRefusal, conflictRefusal}
-use Rattle.composition_state.specs.Surfaces.{isInteractive, surfaceStatus, surfaceRefusal}
-use Rattle.composition_state.specs.Views.{viewStatus, viewRefusal}
+use Rattle.records.specs.Surfaces.{isInteractive, surfaceStatus, surfaceRefusal}
+use Rattle.records.specs.Views.{viewStatus, viewRefusal}
 use Rattle.composition_panels.specs.Windows.{exhaustedRefusal}
 use Rattle.composition_input.specs.Focus.{described, interactiveRefusal, entryRefusal}
 

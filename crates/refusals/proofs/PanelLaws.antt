@@ -5,15 +5,15 @@ use lib.Dec.{eqb}
 use Rattle.geometry.specs.Metrics.{isValidMetrics}
 use Rattle.geometry.specs.Surface.{isValidGeometry}
 use Rattle.handles.specs.Slots.{released}
-use Rattle.composition_state.specs.declared.error.CompositionError.{CompositionError}
-use Rattle.composition_state.specs.declared.error.CompositionError.the-variants.{Capacity, PerViewCapacity, WindowInUse, ViewInUse, InvalidGeometry, InvalidMetrics, RevisionExhausted}
-use Rattle.composition_state.specs.declared.error.Outcome.{Outcome}
-use Rattle.composition_state.specs.declared.error.Outcome.the-variants.{Accepted, Refused}
+use Rattle.records.specs.declared.error.CompositionError.{CompositionError}
+use Rattle.records.specs.declared.error.CompositionError.the-variants.{Capacity, PerViewCapacity, WindowInUse, ViewInUse, InvalidGeometry, InvalidMetrics, RevisionExhausted}
+use Rattle.records.specs.declared.error.Outcome.{Outcome}
+use Rattle.records.specs.declared.error.Outcome.the-variants.{Accepted, Refused}
 use Rattle.composition_state.specs.declared.registry.CompositionRegistry.{CompositionRegistry}
 use Rattle.composition_state.specs.Damage.{damageRefusal}
-use Rattle.composition_state.specs.Errors.{errorNumber, thenRefusal, refusalIf}
+use Rattle.records.specs.Errors.{errorNumber, thenRefusal, refusalIf}
 use Rattle.composition_state.specs.Registry.{conflictRefusal, settled}
-use Rattle.composition_state.specs.Views.{viewRefusal}
+use Rattle.records.specs.Views.{viewRefusal}
 use Rattle.composition_panels.specs.Metrics.{currentRevision, updateViewMetrics}
 use Rattle.composition_panels.specs.Panels.{layerCount, attachRefusal, attachSurface, geometryRefusal, updateSurfaceGeometry, policyRefusal, updateSurfaceInputPolicy}
 use Rattle.composition_panels.specs.Windows.{createWindowRefusal, createWindow, isWindowInUse, closeWindowRefusal, closeWindow, createViewRefusal, createView, hasLayers, closeViewRefusal, closeView}

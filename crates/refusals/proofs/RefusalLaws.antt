@@ -3,16 +3,16 @@ use mathlib.Core.Path.{_≡_, refl, sym, ap}
 use mathlib.Core.Bool.{Bool, true, false, cond, not, _&&_}
 use lib.Dec.{eqb}
 use Rattle.lists.specs.Lists.{keep}
-use Rattle.handles.specs.declared.handle.GenerationalHandle.{GenerationalHandle}
+use Rattle.handles.specs.declared.GenerationalHandle.{GenerationalHandle}
 use Rattle.maps.specs.MapTables.{retained}
 use Rattle.maps.specs.Bindings.{bindings}
-use Rattle.composition_state.specs.declared.error.CompositionError.{CompositionError}
-use Rattle.composition_state.specs.declared.error.Outcome.{Outcome}
-use Rattle.composition_state.specs.declared.error.Outcome.the-variants as composition
+use Rattle.records.specs.declared.error.CompositionError.{CompositionError}
+use Rattle.records.specs.declared.error.Outcome.{Outcome}
+use Rattle.records.specs.declared.error.Outcome.the-variants as composition
 use Rattle.composition_state.specs.declared.registry.CompositionRegistry.{CompositionRegistry}
-use Rattle.composition_state.specs.declared.trace.ArbitrationEvent.{ArbitrationEvent}
-use Rattle.composition_state.specs.declared.trace.Hits.{Hits}
-use Rattle.composition_state.specs.Errors.{errorNumber}
+use Rattle.records.specs.declared.trace.ArbitrationEvent.{ArbitrationEvent}
+use Rattle.records.specs.declared.trace.Hits.{Hits}
+use Rattle.records.specs.Errors.{errorNumber}
 use Rattle.composition_input.specs.Captures.{releaseDevicePointerCaptures}
 use Rattle.composition_arbitration.specs.Arbitration.{concluded, arbitrated}
 use Rattle.composition_arbitration.proofs.CallClaimLaws as arbitrations
@@ -25,7 +25,7 @@ use Rattle.input_events.specs.declared.error.RouterOutcome.the-variants.{Refuse
 use Rattle.input_events.specs.RouterErrors.{routerErrorNumber, routerRefusalIf, fromComposition}
 use Rattle.input_router.specs.declared.releases.Released.{Released}
 use Rattle.input_router.specs.Damage.{isRouterSound}
-use Rattle.input_router.specs.ReleaseLists.{isOn, byPanel}
+use Rattle.release_lists.specs.Releases.{isOn, byPanel}
 use Rattle.input_router.specs.Releases.{released, damagedRelease, releaseSurface, releaseAll}
 use Rattle.input_router.specs.Router.{emptyRouter, withBindings, pressesOf}
 use Rattle.input_releases.specs.declared.answer.PlatformInputRoutingReport.{PlatformInputRoutingReport}

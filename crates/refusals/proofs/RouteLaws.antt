@@ -8,17 +8,17 @@ use lib.ListN.{length}
 use Rattle.lists.proofs.ListLaws.{by-test, and-left, and-right}
 use Rattle.handles.specs.declared.arena.SlotStatus.the-variants.{Live}
 use Rattle.maps.specs.Keys.{deviceValid}
-use Rattle.composition_state.specs.declared.error.CompositionError.{CompositionError}
-use Rattle.composition_state.specs.declared.error.CompositionError.the-variants.{InvalidView, StaleView, InvalidSurface, StaleSurface}
-use Rattle.composition_state.specs.declared.error.Outcome.{Outcome}
-use Rattle.composition_state.specs.declared.error.Outcome.the-variants as composition
+use Rattle.records.specs.declared.error.CompositionError.{CompositionError}
+use Rattle.records.specs.declared.error.CompositionError.the-variants.{InvalidView, StaleView, InvalidSurface, StaleSurface}
+use Rattle.records.specs.declared.error.Outcome.{Outcome}
+use Rattle.records.specs.declared.error.Outcome.the-variants as composition
 use Rattle.composition_state.specs.declared.registry.CompositionRegistry.{CompositionRegistry}
-use Rattle.composition_state.specs.declared.surface.SurfaceTable.{SurfaceTable}
+use Rattle.records.specs.declared.surface.SurfaceTable.{SurfaceTable}
 use Rattle.composition_state.specs.Damage.{isSound}
-use Rattle.composition_state.specs.Errors.{isAccepted}
+use Rattle.records.specs.Errors.{isAccepted}
 use Rattle.composition_state.specs.Registry.{settled, answered}
-use Rattle.composition_state.specs.Surfaces.{surfaceStatus}
-use Rattle.composition_state.specs.Views.{viewStatus, viewRefusal}
+use Rattle.records.specs.Surfaces.{surfaceStatus}
+use Rattle.records.specs.Views.{viewStatus, viewRefusal}
 use Rattle.composition_input.specs.declared.answer.CapturesReleased.{CapturesReleased}
 use Rattle.composition_input.specs.declared.answer.Suspended.{Suspended}
 use Rattle.composition_input.specs.Captures.{deviceCaptures, deviceRefusal, releaseDevicePointerCaptures}
@@ -35,7 +35,7 @@ use Rattle.input_events.specs.declared.event.PlatformInputEvent.{PlatformInputE
 use Rattle.input_events.specs.ArbitrationEvents.{arbitrationEvent, isDisconnect, isLoss}
 use Rattle.input_events.specs.Checks.{deviceRefusal as idRefusal, headerRefusal, eventRefusal}
 use Rattle.input_events.specs.RouterErrors.{routerErrorNumber, thenRouterRefusal, routerRefusalIf, fromComposition}
-use Rattle.input_router.specs.declared.release_list.Releases.{Releases}
+use Rattle.release_lists.specs.declared.releases.Releases.{Releases}
 use Rattle.input_router.specs.declared.router.PlatformInputRouter.{PlatformInputRouter}
 use Rattle.input_router.specs.declared.view_releases.OptionalPress.{OptionalPress}
 use Rattle.input_router.specs.declared.view_releases.OptionalPress.the-variants.{None, Some}

@@ -17,25 +17,25 @@ use Rattle.geometry.specs.declared.transform.Point.{Point}
 use Rattle.handles.specs.Slots.{lookupOf, liveHandles}
 use Rattle.handles.specs.declared.arena.Arena.{Arena}
 use Rattle.handles.specs.declared.arena.SlotStatus.the-variants.{Live}
-use Rattle.handles.specs.declared.handle.GenerationalHandle.{GenerationalHandle}
-use Rattle.handles.specs.declared.handle.OptionalHandle.{OptionalHandle}
+use Rattle.handles.specs.declared.GenerationalHandle.{GenerationalHandle}
+use Rattle.handles.specs.declared.OptionalHandle.{OptionalHandle}
 use Rattle.handles.proofs.LookupLaws.{live-facts}
-use Rattle.composition_state.specs.declared.error.CompositionError.the-variants.{InvalidView, StaleView, RevisionExhausted}
-use Rattle.composition_state.specs.declared.error.Outcome.{Outcome}
-use Rattle.composition_state.specs.declared.error.Outcome.the-variants.{Accepted, Refused}
+use Rattle.records.specs.declared.error.CompositionError.the-variants.{InvalidView, StaleView, RevisionExhausted}
+use Rattle.records.specs.declared.error.Outcome.{Outcome}
+use Rattle.records.specs.declared.error.Outcome.the-variants.{Accepted, Refused}
 use Rattle.composition_state.specs.declared.registry.Changed.{Changed}
 use Rattle.composition_state.specs.declared.registry.CompositionRegistry.{CompositionRegistry}
-use Rattle.composition_state.specs.declared.surface.SurfaceTable.{SurfaceTable}
-use Rattle.composition_state.specs.declared.trace.ArbitrationEvent.{ArbitrationEvent}
-use Rattle.composition_state.specs.declared.trace.ArbitrationEvent.the-variants.{Pointer, PointerStack, PointerFor, PointerStackFor, Keyboard, KeyboardFor, Gamepad, GamepadFor, Text, Shortcut, SystemShortcut}
-use Rattle.composition_state.specs.declared.trace.Hits.{Hits}
+use Rattle.records.specs.declared.surface.SurfaceTable.{SurfaceTable}
+use Rattle.records.specs.declared.trace.ArbitrationEvent.{ArbitrationEvent}
+use Rattle.records.specs.declared.trace.ArbitrationEvent.the-variants.{Pointer, PointerStack, PointerFor, PointerStackFor, Keyboard, KeyboardFor, Gamepad, GamepadFor, Text, Shortcut, SystemShortcut}
+use Rattle.records.specs.declared.trace.Hits.{Hits}
 use Rattle.composition_state.specs.Damage.{limitsSound, arenasSound, tracesSound, viewHandle, slotSound, viewsSound, isSound, damageRefusal}
-use Rattle.composition_state.specs.Layers.{layers}
+use Rattle.records.specs.Layers.{layers}
 use Rattle.composition_state.specs.Registry.{advanced, settled}
-use Rattle.composition_state.specs.Shortcuts.{shortcuts}
-use Rattle.composition_state.specs.Surfaces.{descriptorOf}
-use Rattle.composition_state.specs.Traces.{hits}
-use Rattle.composition_state.specs.Views.{viewAt, viewStatus}
+use Rattle.records.specs.Shortcuts.{shortcuts}
+use Rattle.records.specs.Surfaces.{descriptorOf}
+use Rattle.records.specs.Traces.{hits}
+use Rattle.records.specs.Views.{viewAt, viewStatus}
 use Rattle.composition_shortcuts.specs.OwnView.{isRefused, refusalOf, ownViewRefusal}
 use Rattle.composition_shortcuts.specs.Resolve.{resolvedWith, winner, resolveSystemShortcut}
 use Rattle.composition_hits.specs.HitTest.{isLayerHit, hitsAmong, viewHits}

@@ -1,13 +1,13 @@
 -- Document 01, What a refusal has written: "21 comes after the change". The change of each call, before the revision rises.
 use Prim.Native.Nat.{ℕ}
 use Rattle.handles.specs.Slots.{released}
-use Rattle.handles.specs.declared.handle.GenerationalHandle.{GenerationalHandle}
-use Rattle.handles.specs.declared.handle.OptionalHandle.the-variants.{None, Some}
+use Rattle.handles.specs.declared.GenerationalHandle.{GenerationalHandle}
+use Rattle.handles.specs.declared.OptionalHandle.the-variants.{None, Some}
 use Rattle.composition_state.specs.declared.registry.CompositionRegistry.{CompositionRegistry}
-use Rattle.composition_state.specs.declared.surface.SurfaceRecord.{SurfaceRecord}
+use Rattle.records.specs.declared.surface.SurfaceRecord.{SurfaceRecord}
 use Rattle.composition_state.specs.Registry.{withWindows, withViews, withSurfaces, withShortcuts}
-use Rattle.composition_state.specs.Surfaces.{surfaceAt, withSurface, withGeometry, withInput}
-use Rattle.composition_state.specs.Views.{freshView, viewAt, withView, viewsWith, withMetrics, withFocus, withIme}
+use Rattle.records.specs.Surfaces.{surfaceAt, withSurface, withGeometry, withInput}
+use Rattle.records.specs.Views.{freshView, viewAt, withView, viewsWith, withMetrics, withFocus, withIme}
 use Rattle.composition_panels.specs.Metrics.{newMetrics}
 use Rattle.composition_panels.specs.Panels.{newSurface, attached}
 use Rattle.composition_panels.specs.Windows.{newWindow, newView}

@@ -2,9 +2,9 @@
 use Prim.Native.Nat.{ℕ}
 use mathlib.Core.Bool.{Bool, true, false, cond, not, _&&_, _||_}
 use lib.Dec.{eqb}
-use Rattle.handles.specs.declared.handle.GenerationalHandle.{GenerationalHandle}
+use Rattle.handles.specs.declared.GenerationalHandle.{GenerationalHandle}
 use Rattle.composition_state.specs.declared.registry.CompositionRegistry.{CompositionRegistry}
-use Rattle.composition_state.specs.Errors.{isAccepted}
+use Rattle.records.specs.Errors.{isAccepted}
 use Rattle.composition_panels.specs.Metrics.{currentRevision}
 use Rattle.composition_close.specs.Close.{detached, closedPanel}
 use Rattle.input_events.specs.declared.event.PlatformInputEvent.{PlatformInputEvent}

@@ -9,22 +9,22 @@ use Rattle.lists.specs.Tables.{entriesOf}
 use Rattle.lists.proofs.ListLaws.{and-left, and-right, and-both}
 use Rattle.handles.specs.Handles.{sameHandle}
 use Rattle.handles.specs.Slots.{slotAt}
-use Rattle.handles.specs.declared.handle.GenerationalHandle.{GenerationalHandle}
-use Rattle.handles.specs.declared.handle.OptionalHandle.the-variants.{Some}
+use Rattle.handles.specs.declared.GenerationalHandle.{GenerationalHandle}
+use Rattle.handles.specs.declared.OptionalHandle.the-variants.{Some}
 use Rattle.maps.specs.Captures.{captures, captureKey}
 use Rattle.maps.specs.Keys.{pointerKey}
 use Rattle.maps.specs.MapTables.{found}
 use Rattle.maps.specs.declared.captures.PointerCaptures.{PointerCaptures}
-use Rattle.composition_state.specs.declared.error.Outcome.{Outcome}
-use Rattle.composition_state.specs.declared.error.Outcome.the-variants.{Accepted}
-use Rattle.composition_state.specs.declared.layers.Layers.{Layers}
+use Rattle.records.specs.declared.error.Outcome.{Outcome}
+use Rattle.records.specs.declared.error.Outcome.the-variants.{Accepted}
+use Rattle.records.specs.declared.layers.Layers.{Layers}
 use Rattle.composition_state.specs.declared.registry.CompositionRegistry.{CompositionRegistry}
-use Rattle.composition_state.specs.declared.view.ViewRecord.{ViewRecord}
-use Rattle.composition_state.specs.declared.view.ViewTable.{ViewTable}
+use Rattle.records.specs.declared.view.ViewRecord.{ViewRecord}
+use Rattle.records.specs.declared.view.ViewTable.{ViewTable}
 use Rattle.composition_state.specs.Damage.{viewHandle}
-use Rattle.composition_state.specs.Layers.{layers, isLive}
+use Rattle.records.specs.Layers.{layers, isLive}
 use Rattle.composition_state.specs.Registry.{withRevision, settled}
-use Rattle.composition_state.specs.Views.{noView, viewAt, viewSlots, viewStatus, withView}
+use Rattle.records.specs.Views.{noView, viewAt, viewSlots, viewStatus, withView}
 use Rattle.composition_state.proofs.SettleLaws.{accepted-is, settled-accepted}
 use Rattle.composition_input.specs.Captures.{primary, capture}
 use Rattle.composition_input.specs.Focus.{withViewRecord}

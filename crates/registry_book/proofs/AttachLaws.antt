@@ -20,23 +20,23 @@ use Rattle.handles.specs.Handles.{sameHandle}
 use Rattle.handles.specs.Slots.{lookupOf}
 use Rattle.handles.specs.declared.arena.Allocation.{Allocation}
 use Rattle.handles.specs.declared.arena.SlotStatus.the-variants.{Live}
-use Rattle.handles.specs.declared.handle.GenerationalHandle.{GenerationalHandle}
-use Rattle.handles.specs.declared.handle.OptionalHandle.{OptionalHandle}
+use Rattle.handles.specs.declared.GenerationalHandle.{GenerationalHandle}
+use Rattle.handles.specs.declared.OptionalHandle.{OptionalHandle}
 use Rattle.handles.proofs.ClaimLaws as arena
 use Rattle.handles.proofs.HandleLaws.{handles}
 use Rattle.handles.proofs.LookupLaws.{live-facts}
-use Rattle.composition_state.specs.declared.error.CompositionError.the-variants.{InvalidView, StaleView, InvalidGeometry, PerViewCapacity, Capacity}
-use Rattle.composition_state.specs.declared.error.Outcome.{Outcome}
-use Rattle.composition_state.specs.declared.error.Outcome.the-variants.{Accepted}
+use Rattle.records.specs.declared.error.CompositionError.the-variants.{InvalidView, StaleView, InvalidGeometry, PerViewCapacity, Capacity}
+use Rattle.records.specs.declared.error.Outcome.{Outcome}
+use Rattle.records.specs.declared.error.Outcome.the-variants.{Accepted}
 use Rattle.composition_state.specs.declared.registry.CompositionRegistry.{CompositionRegistry}
-use Rattle.composition_state.specs.declared.surface.SurfaceDescriptor.{SurfaceDescriptor}
-use Rattle.composition_state.specs.declared.surface.SurfaceRecord.{SurfaceRecord}
-use Rattle.composition_state.specs.declared.view.ViewRecord.{ViewRecord}
+use Rattle.records.specs.declared.surface.SurfaceDescriptor.{SurfaceDescriptor}
+use Rattle.records.specs.declared.surface.SurfaceRecord.{SurfaceRecord}
+use Rattle.records.specs.declared.view.ViewRecord.{ViewRecord}
 use Rattle.composition_state.specs.Damage.{damageRefusal}
-use Rattle.composition_state.specs.Errors.{refusalIf, isAccepted}
-use Rattle.composition_state.specs.Layers.{layers, itself, layerLt, layersWith, isLive}
-use Rattle.composition_state.specs.Surfaces.{noSurface, surfaceStatus}
-use Rattle.composition_state.specs.Views.{viewAt, viewStatus, viewRefusal, withLayers}
+use Rattle.records.specs.Errors.{refusalIf, isAccepted}
+use Rattle.records.specs.Layers.{layers, itself, layerLt, layersWith, isLive}
+use Rattle.records.specs.Surfaces.{noSurface, surfaceStatus}
+use Rattle.records.specs.Views.{viewAt, viewStatus, viewRefusal, withLayers}
 use Rattle.composition_state.proofs.SettleLaws.{then-last, if-accepted}
 use Rattle.composition_panels.specs.Panels.{layerCount, attachRefusal, newSurface, surfaceAdded, attached, attachSurface}
 use Rattle.composition_panels.specs.Windows.{handleIf}

@@ -13,9 +13,9 @@ use Rattle.lists.proofs.TableLaws.{entries-packed}
 use Rattle.handles.specs.Handles.{sameHandle, handleLt, holdsHandle}
 use Rattle.handles.specs.Slots.{lookupOf}
 use Rattle.handles.specs.declared.arena.SlotStatus.the-variants.{Live}
-use Rattle.handles.specs.declared.handle.GenerationalHandle.{GenerationalHandle}
-use Rattle.handles.specs.declared.handle.OptionalHandle.{OptionalHandle}
-use Rattle.handles.specs.declared.handle.OptionalHandle.the-variants as O
+use Rattle.handles.specs.declared.GenerationalHandle.{GenerationalHandle}
+use Rattle.handles.specs.declared.OptionalHandle.{OptionalHandle}
+use Rattle.handles.specs.declared.OptionalHandle.the-variants as O
 use Rattle.handles.proofs.HandleLaws.{handles}
 use Rattle.maps.specs.Captures.{captures, captureKey, surfaceOf}
 use Rattle.maps.specs.Keys.{pointerKey, keyLt, keySame, pointerValid}
@@ -24,14 +24,14 @@ use Rattle.maps.specs.declared.captures.Capture.{Capture}
 use Rattle.maps.specs.declared.captures.PointerCaptures.{PointerCaptures}
 use Rattle.maps.specs.declared.keys.CompositionPointerId.{CompositionPointerId}
 use Rattle.maps.proofs.MapTableLaws as table
-use Rattle.composition_state.specs.declared.error.CompositionError.the-variants.{InvalidSurface, StaleSurface, InvalidView, StaleView, NotInteractive}
-use Rattle.composition_state.specs.declared.error.Outcome.the-variants.{Accepted}
+use Rattle.records.specs.declared.error.CompositionError.the-variants.{InvalidSurface, StaleSurface, InvalidView, StaleView, NotInteractive}
+use Rattle.records.specs.declared.error.Outcome.the-variants.{Accepted}
 use Rattle.composition_state.specs.declared.registry.CompositionRegistry.{CompositionRegistry}
-use Rattle.composition_state.specs.declared.view.ViewRecord.{ViewRecord}
-use Rattle.composition_state.specs.Errors.{refusalIf}
-use Rattle.composition_state.specs.Layers.{isLive}
-use Rattle.composition_state.specs.Surfaces.{surfaceStatus, surfaceRefusal}
-use Rattle.composition_state.specs.Views.{viewAt, viewStatus, withView}
+use Rattle.records.specs.declared.view.ViewRecord.{ViewRecord}
+use Rattle.records.specs.Errors.{refusalIf}
+use Rattle.records.specs.Layers.{isLive}
+use Rattle.records.specs.Surfaces.{surfaceStatus, surfaceRefusal}
+use Rattle.records.specs.Views.{viewAt, viewStatus, withView}
 use Rattle.composition_state.proofs.SettleLaws.{then-last, if-accepted}
 use Rattle.composition_input.specs.Captures.{primary, isPrimary, capture, ownRecord, captureRefusal, capturedView, capturePointerFor, releasedView, ownerRefusal, releaseForRefusal, releasePointerFor, releaseRefusal, releasePointer}
 use Rattle.composition_input.specs.Focus.{entryRefusal, ownView, withViewRecord, suspendRefusal, suspendedView, suspendViewInput}

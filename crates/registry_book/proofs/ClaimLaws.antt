@@ -1,5 +1,5 @@
 -- The claims hold: each call by the law of its kind, with the damage test as facts of its parts.
-use Rattle.composition_state.specs.Views.{viewStatus}
+use Rattle.records.specs.Views.{viewStatus}
 use Rattle.composition_soundness.proofs.CaseLaws.{live-is}
 use Rattle.composition_soundness.proofs.PartLaws.{parts}
 use Rattle.registry_book.specs.Claims.{RegistryBookClaims}

@@ -13,21 +13,21 @@ use Rattle.handles.specs.declared.arena.Arena.{Arena}
 use Rattle.handles.specs.declared.arena.ReleaseOutcome.the-variants as release
 use Rattle.handles.specs.declared.arena.SlotStatus.{SlotStatus}
 use Rattle.handles.specs.declared.arena.SlotStatus.the-variants.{Live}
-use Rattle.handles.specs.declared.handle.GenerationalHandle.{GenerationalHandle}
-use Rattle.handles.specs.declared.handle.OptionalHandle.{OptionalHandle}
-use Rattle.handles.specs.declared.handle.OptionalHandle.the-variants as O
+use Rattle.handles.specs.declared.GenerationalHandle.{GenerationalHandle}
+use Rattle.handles.specs.declared.OptionalHandle.{OptionalHandle}
+use Rattle.handles.specs.declared.OptionalHandle.the-variants as O
 use Rattle.handles.proofs.ClaimLaws as arena
 use Rattle.handles.proofs.HandleLaws.{handles}
 use Rattle.maps.specs.Captures.{captures}
-use Rattle.composition_state.specs.declared.error.CompositionError.the-variants.{InvalidSurface, StaleSurface}
-use Rattle.composition_state.specs.declared.error.Outcome.{Outcome}
-use Rattle.composition_state.specs.declared.error.Outcome.the-variants.{Accepted, Refused}
+use Rattle.records.specs.declared.error.CompositionError.the-variants.{InvalidSurface, StaleSurface}
+use Rattle.records.specs.declared.error.Outcome.{Outcome}
+use Rattle.records.specs.declared.error.Outcome.the-variants.{Accepted, Refused}
 use Rattle.composition_state.specs.declared.registry.CompositionRegistry.{CompositionRegistry}
-use Rattle.composition_state.specs.declared.view.ViewRecord.{ViewRecord}
+use Rattle.records.specs.declared.view.ViewRecord.{ViewRecord}
 use Rattle.composition_state.specs.Damage.{damageRefusal}
-use Rattle.composition_state.specs.Layers.{layers, isLive}
-use Rattle.composition_state.specs.Surfaces.{surfaceStatus, surfaceRefusal}
-use Rattle.composition_state.specs.Views.{viewAt, viewStatus, withView}
+use Rattle.records.specs.Layers.{layers, isLive}
+use Rattle.records.specs.Surfaces.{surfaceStatus, surfaceRefusal}
+use Rattle.records.specs.Views.{viewAt, viewStatus, withView}
 use Rattle.composition_state.proofs.SettleLaws.{then-last}
 use Rattle.composition_panels.specs.Windows.{exhaustedRefusal}
 use Rattle.composition_input.specs.Captures.{primary, capture}

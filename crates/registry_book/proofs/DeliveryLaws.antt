@@ -10,23 +10,23 @@ use Rattle.lists.proofs.ListLaws.{by-test, and-left, and-right, and-both, all-a
 use Rattle.lists.proofs.TableLaws.{entries-packed}
 use Rattle.handles.specs.Slots.{slotAt, lookupOf}
 use Rattle.handles.specs.declared.arena.SlotStatus.the-variants.{Live}
-use Rattle.handles.specs.declared.handle.GenerationalHandle.{GenerationalHandle}
-use Rattle.handles.specs.declared.handle.OptionalHandle.{OptionalHandle}
-use Rattle.handles.specs.declared.handle.OptionalHandle.the-variants.{None, Some}
-use Rattle.composition_state.specs.declared.error.CompositionError.the-variants.{InvalidView, StaleView}
-use Rattle.composition_state.specs.declared.error.Outcome.{Outcome}
-use Rattle.composition_state.specs.declared.error.Outcome.the-variants.{Accepted}
+use Rattle.handles.specs.declared.GenerationalHandle.{GenerationalHandle}
+use Rattle.handles.specs.declared.OptionalHandle.{OptionalHandle}
+use Rattle.handles.specs.declared.OptionalHandle.the-variants.{None, Some}
+use Rattle.records.specs.declared.error.CompositionError.the-variants.{InvalidView, StaleView}
+use Rattle.records.specs.declared.error.Outcome.{Outcome}
+use Rattle.records.specs.declared.error.Outcome.the-variants.{Accepted}
 use Rattle.composition_state.specs.declared.registry.CompositionRegistry.{CompositionRegistry}
-use Rattle.composition_state.specs.declared.trace.ArbitrationEvent.{ArbitrationEvent}
-use Rattle.composition_state.specs.declared.trace.ArbitrationEvent.the-variants.{Pointer, PointerStack, PointerFor, PointerStackFor, Keyboard, KeyboardFor, Gamepad, GamepadFor, Text, Shortcut, SystemShortcut}
-use Rattle.composition_state.specs.declared.trace.Deliveries.{Deliveries}
-use Rattle.composition_state.specs.declared.trace.Hits.{Hits}
-use Rattle.composition_state.specs.declared.trace.InputDelivery.{InputDelivery}
+use Rattle.records.specs.declared.trace.ArbitrationEvent.{ArbitrationEvent}
+use Rattle.records.specs.declared.trace.ArbitrationEvent.the-variants.{Pointer, PointerStack, PointerFor, PointerStackFor, Keyboard, KeyboardFor, Gamepad, GamepadFor, Text, Shortcut, SystemShortcut}
+use Rattle.records.specs.declared.trace.Deliveries.{Deliveries}
+use Rattle.records.specs.declared.trace.Hits.{Hits}
+use Rattle.records.specs.declared.trace.InputDelivery.{InputDelivery}
 use Rattle.composition_state.specs.Damage.{damageRefusal}
-use Rattle.composition_state.specs.Errors.{isAccepted}
-use Rattle.composition_state.specs.Layers.{layers, isLive, isLayerOf}
-use Rattle.composition_state.specs.Traces.{hits as stateHits, deliveries}
-use Rattle.composition_state.specs.Views.{viewAt, viewStatus, viewRefusal}
+use Rattle.records.specs.Errors.{isAccepted}
+use Rattle.records.specs.Layers.{layers, isLive, isLayerOf}
+use Rattle.records.specs.Traces.{hits as stateHits, deliveries}
+use Rattle.records.specs.Views.{viewAt, viewStatus, viewRefusal}
 use Rattle.composition_state.proofs.SettleLaws.{settled-accepted, then-last}
 use Rattle.composition_shortcuts.specs.Scope.{sharesBit, isOwned, counts}
 use Rattle.composition_shortcuts.proofs.ClaimLaws as shortcut

@@ -16,23 +16,23 @@ use Rattle.lists.proofs.TableLaws.{entries-packed}
 use Rattle.handles.specs.Slots.{slotAt, lookupOf}
 use Rattle.handles.specs.declared.arena.Arena.{Arena}
 use Rattle.handles.specs.declared.arena.SlotStatus.the-variants.{Live}
-use Rattle.handles.specs.declared.handle.GenerationalHandle.{GenerationalHandle}
-use Rattle.handles.specs.declared.handle.OptionalHandle.the-variants as O
+use Rattle.handles.specs.declared.GenerationalHandle.{GenerationalHandle}
+use Rattle.handles.specs.declared.OptionalHandle.the-variants as O
 use Rattle.handles.proofs.LookupLaws.{live-facts}
 use Rattle.handles.proofs.SlotLaws.{by-same}
 use Rattle.maps.specs.Captures.{captures}
 use Rattle.maps.specs.MapTables.{isSome, retained}
 use Rattle.maps.specs.declared.captures.PointerCaptures.{PointerCaptures}
 use Rattle.maps.specs.declared.keys.InputDeviceId.{InputDeviceId}
-use Rattle.composition_state.specs.declared.error.Outcome.the-variants.{Accepted}
-use Rattle.composition_state.specs.declared.layers.Layers.{Layers}
+use Rattle.records.specs.declared.error.Outcome.the-variants.{Accepted}
+use Rattle.records.specs.declared.layers.Layers.{Layers}
 use Rattle.composition_state.specs.declared.registry.CompositionRegistry.{CompositionRegistry}
-use Rattle.composition_state.specs.declared.view.ViewRecord.{ViewRecord}
-use Rattle.composition_state.specs.declared.view.ViewTable.{ViewTable}
+use Rattle.records.specs.declared.view.ViewRecord.{ViewRecord}
+use Rattle.records.specs.declared.view.ViewTable.{ViewTable}
 use Rattle.composition_state.specs.Damage.{viewHandle}
-use Rattle.composition_state.specs.Layers.{layers, isLive}
+use Rattle.records.specs.Layers.{layers, isLive}
 use Rattle.composition_state.specs.Registry.{withViews, settled, answered}
-use Rattle.composition_state.specs.Views.{noView, viewAt, viewSlots, viewStatus}
+use Rattle.records.specs.Views.{noView, viewAt, viewSlots, viewStatus}
 use Rattle.composition_input.specs.Captures.{primary, capture, isOfDevice, losesPrimary, leftView, takenAt, deviceCaptures, clearedAt, deviceCleared, deviceRefusal, releaseDevicePointerCaptures}
 use Rattle.composition_arbitration.specs.Targets.{isAmong}
 use Rattle.composition_soundness.proofs.CaseLaws.{live-is}

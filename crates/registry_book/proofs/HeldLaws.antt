@@ -15,16 +15,16 @@ use Rattle.handles.specs.Handles.{handleOf, sameHandle}
 use Rattle.handles.specs.Slots.{slotAt, lookupOf}
 use Rattle.handles.specs.declared.arena.Arena.{Arena}
 use Rattle.handles.specs.declared.arena.SlotStatus.the-variants.{Live}
-use Rattle.handles.specs.declared.handle.GenerationalHandle.{GenerationalHandle}
+use Rattle.handles.specs.declared.GenerationalHandle.{GenerationalHandle}
 use Rattle.handles.proofs.HandleLaws.{handles}
 use Rattle.handles.proofs.LookupLaws.{live-facts}
 use Rattle.maps.specs.Captures.{captures}
 use Rattle.maps.specs.declared.captures.Capture.{Capture}
-use Rattle.composition_state.specs.declared.view.ViewRecord.{ViewRecord}
-use Rattle.composition_state.specs.declared.view.ViewTable.{ViewTable}
+use Rattle.records.specs.declared.view.ViewRecord.{ViewRecord}
+use Rattle.records.specs.declared.view.ViewTable.{ViewTable}
 use Rattle.composition_state.specs.Damage.{viewHandle}
-use Rattle.composition_state.specs.Layers.{isLive}
-use Rattle.composition_state.specs.Views.{noView, viewAt, viewStatus, withView}
+use Rattle.records.specs.Layers.{isLive}
+use Rattle.records.specs.Views.{noView, viewAt, viewStatus, withView}
 use Rattle.composition_soundness.proofs.CaseLaws.{either, live-is}
 use Rattle.composition_soundness.proofs.LiveLaws.{one-live, used-few, filled-live}
 use Rattle.composition_soundness.proofs.WindowLaws.{all-slots}

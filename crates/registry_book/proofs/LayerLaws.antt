@@ -6,11 +6,11 @@ use Rattle.lists.specs.Lists.{keep}
 use Rattle.lists.specs.Maps.{insert}
 use Rattle.lists.proofs.ListLaws.{by-test, clash}
 use Rattle.handles.specs.Handles.{sameHandle}
-use Rattle.handles.specs.declared.handle.GenerationalHandle.{GenerationalHandle}
+use Rattle.handles.specs.declared.GenerationalHandle.{GenerationalHandle}
 use Rattle.handles.proofs.HandleLaws.{handles}
-use Rattle.composition_state.specs.declared.surface.SurfaceRecord.{SurfaceRecord}
-use Rattle.composition_state.specs.Layers.{itself, layerLt}
-use Rattle.composition_state.proofs.LayerLaws.{sameLayer, ordered}
+use Rattle.records.specs.declared.surface.SurfaceRecord.{SurfaceRecord}
+use Rattle.records.specs.Layers.{itself, layerLt}
+use Rattle.records.proofs.LayerLaws.{sameLayer, ordered}
 use Rattle.composition_arbitration.specs.Targets.{isAmong}
 
 or-right : (a : Bool) {b : Bool} → b ≡ true → (a || b) ≡ true

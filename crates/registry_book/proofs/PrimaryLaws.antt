@@ -9,9 +9,9 @@ use Rattle.lists.specs.Tables.{entriesOf, packed}
 use Rattle.lists.proofs.ListLaws.{clash}
 use Rattle.lists.proofs.TableLaws.{entries-packed}
 use Rattle.handles.specs.Handles.{isNone}
-use Rattle.handles.specs.declared.handle.GenerationalHandle.{GenerationalHandle}
-use Rattle.handles.specs.declared.handle.OptionalHandle.{OptionalHandle}
-use Rattle.handles.specs.declared.handle.OptionalHandle.the-variants.{None, Some}
+use Rattle.handles.specs.declared.GenerationalHandle.{GenerationalHandle}
+use Rattle.handles.specs.declared.OptionalHandle.{OptionalHandle}
+use Rattle.handles.specs.declared.OptionalHandle.the-variants.{None, Some}
 use Rattle.maps.specs.Captures.{captures, captureKey}
 use Rattle.maps.specs.Keys.{pointerKey, keySame}
 use Rattle.maps.specs.MapTables.{found, retained}
@@ -20,8 +20,8 @@ use Rattle.maps.specs.declared.captures.PointerCaptures.{PointerCaptures}
 use Rattle.maps.specs.declared.keys.CompositionPointerId.{CompositionPointerId}
 use Rattle.maps.specs.declared.keys.MapKey.{MapKey}
 use Rattle.maps.proofs.MapTableLaws.{keys, claims}
-use Rattle.composition_state.specs.declared.view.ViewRecord.{ViewRecord}
-use Rattle.composition_state.specs.Views.{withPointerCapture, withPointerCaptures}
+use Rattle.records.specs.declared.view.ViewRecord.{ViewRecord}
+use Rattle.records.specs.Views.{withPointerCapture, withPointerCaptures}
 use Rattle.composition_input.specs.Captures.{primary, isPrimary, capture}
 use Rattle.composition_soundness.proofs.ChangeLaws.{CaptureParts}
 use Rattle.registry_book.proofs.AgreeLaws.{HasPrimary, Mapped}

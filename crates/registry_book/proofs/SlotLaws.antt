@@ -18,24 +18,24 @@ use Rattle.handles.specs.Handles.{sameHandle}
 use Rattle.handles.specs.Slots.{emptyArena, lookupOf, released}
 use Rattle.handles.specs.declared.arena.Allocation.{Allocation}
 use Rattle.handles.specs.declared.arena.SlotStatus.the-variants.{Live}
-use Rattle.handles.specs.declared.handle.GenerationalHandle.{GenerationalHandle}
+use Rattle.handles.specs.declared.GenerationalHandle.{GenerationalHandle}
 use Rattle.handles.proofs.ClaimLaws as arena
 use Rattle.handles.proofs.HandleLaws.{handles}
 use Rattle.handles.proofs.LookupLaws.{live-facts}
 use Rattle.maps.specs.Captures.{captures}
 use Rattle.maps.specs.declared.captures.Capture.{Capture}
-use Rattle.composition_state.specs.declared.error.CompositionError.the-variants.{Capacity, ViewInUse, InvalidView, StaleView}
-use Rattle.composition_state.specs.declared.error.Outcome.the-variants.{Accepted}
+use Rattle.records.specs.declared.error.CompositionError.the-variants.{Capacity, ViewInUse, InvalidView, StaleView}
+use Rattle.records.specs.declared.error.Outcome.the-variants.{Accepted}
 use Rattle.composition_state.specs.declared.registry.CompositionLimits.{CompositionLimits}
 use Rattle.composition_state.specs.declared.registry.CompositionRegistry.{CompositionRegistry}
-use Rattle.composition_state.specs.declared.view.ViewRecord.{ViewRecord}
-use Rattle.composition_state.specs.declared.view.ViewTable.{ViewTable}
+use Rattle.records.specs.declared.view.ViewRecord.{ViewRecord}
+use Rattle.records.specs.declared.view.ViewTable.{ViewTable}
 use Rattle.composition_state.specs.Damage.{damageRefusal}
-use Rattle.composition_state.specs.Errors.{isAccepted, refusalIf}
-use Rattle.composition_state.specs.Layers.{layers, isLive}
+use Rattle.records.specs.Errors.{isAccepted, refusalIf}
+use Rattle.records.specs.Layers.{layers, isLive}
 use Rattle.composition_state.specs.Registry.{withViews, windowRefusal}
 use Rattle.composition_state.specs.Start.{startRefusal, freshRegistry, started}
-use Rattle.composition_state.specs.Views.{freshView, noView, viewAt, viewStatus, viewRefusal, withView, viewsWith}
+use Rattle.records.specs.Views.{freshView, noView, viewAt, viewStatus, viewRefusal, withView, viewsWith}
 use Rattle.composition_state.proofs.SettleLaws.{then-last, if-accepted}
 use Rattle.composition_panels.specs.Windows.{createViewRefusal, newView, createView, hasLayers, closeViewRefusal, closeView}
 use Rattle.composition_arbitration.specs.Targets.{isAmong}

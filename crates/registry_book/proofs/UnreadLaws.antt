@@ -3,18 +3,18 @@ use Prim.Native.Nat.{ℕ}
 use mathlib.Core.Path.{_≡_, refl}
 use Rattle.geometry.specs.declared.metrics.ViewMetricsUpdate.{ViewMetricsUpdate}
 use Rattle.geometry.specs.declared.surface.SurfaceGeometry.{SurfaceGeometry}
-use Rattle.handles.specs.declared.handle.GenerationalHandle.{GenerationalHandle}
-use Rattle.handles.specs.declared.handle.OptionalHandle.{OptionalHandle}
-use Rattle.handles.specs.declared.handle.OptionalHandle.the-variants as O
-use Rattle.composition_state.specs.declared.error.Outcome.the-variants.{Accepted}
+use Rattle.handles.specs.declared.GenerationalHandle.{GenerationalHandle}
+use Rattle.handles.specs.declared.OptionalHandle.{OptionalHandle}
+use Rattle.handles.specs.declared.OptionalHandle.the-variants as O
+use Rattle.records.specs.declared.error.Outcome.the-variants.{Accepted}
 use Rattle.composition_state.specs.declared.registry.CompositionRegistry.{CompositionRegistry}
-use Rattle.composition_state.specs.declared.surface.SurfaceInputPolicy.{SurfaceInputPolicy}
-use Rattle.composition_state.specs.declared.surface.SurfaceRecord.{SurfaceRecord}
-use Rattle.composition_state.specs.declared.trace.ArbitrationEvent.{ArbitrationEvent}
-use Rattle.composition_state.specs.declared.trace.Hits.{Hits}
+use Rattle.records.specs.declared.surface.SurfaceInputPolicy.{SurfaceInputPolicy}
+use Rattle.records.specs.declared.surface.SurfaceRecord.{SurfaceRecord}
+use Rattle.records.specs.declared.trace.ArbitrationEvent.{ArbitrationEvent}
+use Rattle.records.specs.declared.trace.Hits.{Hits}
 use Rattle.composition_state.specs.Registry.{withSurfaces}
-use Rattle.composition_state.specs.Surfaces.{noSurface, surfaceAt, withSurface, withGeometry, withInput}
-use Rattle.composition_state.specs.Views.{viewAt, withMetrics, withFocus, withIme}
+use Rattle.records.specs.Surfaces.{noSurface, surfaceAt, withSurface, withGeometry, withInput}
+use Rattle.records.specs.Views.{viewAt, withMetrics, withFocus, withIme}
 use Rattle.composition_panels.specs.Windows.{createWindowRefusal, createWindow, closeWindowRefusal, closeWindow}
 use Rattle.composition_panels.specs.Metrics.{metricsRefusal, newMetrics, updateViewMetrics}
 use Rattle.composition_panels.specs.Panels.{geometryRefusal, updateSurfaceGeometry, policyRefusal, updateSurfaceInputPolicy}

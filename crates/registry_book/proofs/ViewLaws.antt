@@ -11,16 +11,16 @@ use Rattle.lists.specs.Tables.{entriesOf}
 use Rattle.lists.proofs.ListLaws.{by-test, and-right}
 use Rattle.handles.specs.Slots.{lookupOf}
 use Rattle.handles.specs.declared.arena.SlotStatus.the-variants.{Live}
-use Rattle.handles.specs.declared.handle.GenerationalHandle.{GenerationalHandle}
+use Rattle.handles.specs.declared.GenerationalHandle.{GenerationalHandle}
 use Rattle.handles.proofs.HandleLaws.{handles}
 use Rattle.maps.specs.Captures.{captures}
 use Rattle.maps.specs.declared.captures.Capture.{Capture}
-use Rattle.composition_state.specs.declared.layers.Layers.{Layers}
+use Rattle.records.specs.declared.layers.Layers.{Layers}
 use Rattle.composition_state.specs.declared.registry.CompositionRegistry.{CompositionRegistry}
-use Rattle.composition_state.specs.declared.view.ViewRecord.{ViewRecord}
-use Rattle.composition_state.specs.declared.view.ViewTable.{ViewTable}
-use Rattle.composition_state.specs.Layers.{layers}
-use Rattle.composition_state.specs.Views.{noView, viewAt, viewStatus, withView}
+use Rattle.records.specs.declared.view.ViewRecord.{ViewRecord}
+use Rattle.records.specs.declared.view.ViewTable.{ViewTable}
+use Rattle.records.specs.Layers.{layers}
+use Rattle.records.specs.Views.{noView, viewAt, viewStatus, withView}
 use Rattle.composition_input.specs.Focus.{withViewRecord}
 use Rattle.composition_arbitration.specs.Targets.{isAmong}
 use Rattle.composition_soundness.proofs.CaseLaws.{live-is, by-handle}

@@ -7,8 +7,8 @@ use mathlib.Core.Option.{some}
 use Rattle.lists.specs.Below.{iterBelow}
 use Rattle.lists.specs.Lists.{all}
 use Rattle.lists.specs.Tables.{entriesOf}
-use Rattle.handles.specs.declared.handle.GenerationalHandle.{GenerationalHandle}
-use Rattle.handles.specs.declared.handle.OptionalHandle.the-variants.{Some}
+use Rattle.handles.specs.declared.GenerationalHandle.{GenerationalHandle}
+use Rattle.handles.specs.declared.OptionalHandle.the-variants.{Some}
 use Rattle.handles.specs.Handles.{sameHandle}
 use Rattle.handles.specs.Slots.{slotAt}
 use Rattle.maps.specs.declared.captures.Capture.{Capture}
@@ -16,11 +16,11 @@ use Rattle.maps.specs.Captures.{captures, captureKey}
 use Rattle.maps.specs.Keys.{pointerKey}
 use Rattle.maps.specs.MapTables.{found}
 use Rattle.composition_state.specs.declared.registry.CompositionRegistry.{CompositionRegistry}
-use Rattle.composition_state.specs.declared.view.ViewTable.{ViewTable}
+use Rattle.records.specs.declared.view.ViewTable.{ViewTable}
 use Rattle.composition_state.specs.Damage.{viewHandle}
-use Rattle.composition_state.specs.Layers.{layers, isLive}
-use Rattle.composition_state.specs.Surfaces.{descriptorOf, surfaceStatus}
-use Rattle.composition_state.specs.Views.{viewAt, viewSlots, viewStatus}
+use Rattle.records.specs.Layers.{layers, isLive}
+use Rattle.records.specs.Surfaces.{descriptorOf, surfaceStatus}
+use Rattle.records.specs.Views.{viewAt, viewSlots, viewStatus}
 use Rattle.composition_input.specs.Captures.{primary, capture}
 use Rattle.composition_arbitration.specs.Targets.{isAmong}
 use Rattle.book.specs.Book.{Held, Book, homeOf}

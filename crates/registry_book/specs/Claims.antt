@@ -7,23 +7,23 @@ use Rattle.lists.specs.Lists.{keep, all}
 use Rattle.lists.specs.Tables.{entriesOf}
 use Rattle.geometry.specs.declared.metrics.ViewMetricsUpdate.{ViewMetricsUpdate}
 use Rattle.geometry.specs.declared.surface.SurfaceGeometry.{SurfaceGeometry}
-use Rattle.handles.specs.declared.handle.GenerationalHandle.{GenerationalHandle}
-use Rattle.handles.specs.declared.handle.OptionalHandle.{OptionalHandle}
-use Rattle.handles.specs.declared.handle.OptionalHandle.the-variants.{Some}
+use Rattle.handles.specs.declared.GenerationalHandle.{GenerationalHandle}
+use Rattle.handles.specs.declared.OptionalHandle.{OptionalHandle}
+use Rattle.handles.specs.declared.OptionalHandle.the-variants.{Some}
 use Rattle.maps.specs.declared.captures.Capture.{Capture}
 use Rattle.maps.specs.declared.keys.CompositionPointerId.{CompositionPointerId}
 use Rattle.maps.specs.Captures.{captures}
-use Rattle.composition_state.specs.declared.error.Outcome.the-variants.{Accepted}
+use Rattle.records.specs.declared.error.Outcome.the-variants.{Accepted}
 use Rattle.composition_state.specs.declared.registry.CompositionLimits.{CompositionLimits}
 use Rattle.composition_state.specs.declared.registry.CompositionRegistry.{CompositionRegistry}
-use Rattle.composition_state.specs.declared.surface.SurfaceDescriptor.{SurfaceDescriptor}
-use Rattle.composition_state.specs.declared.surface.SurfaceInputPolicy.{SurfaceInputPolicy}
-use Rattle.composition_state.specs.declared.trace.ArbitrationEvent.{ArbitrationEvent}
-use Rattle.composition_state.specs.declared.trace.Hits.{Hits}
-use Rattle.composition_state.specs.Layers.{isLive}
+use Rattle.records.specs.declared.surface.SurfaceDescriptor.{SurfaceDescriptor}
+use Rattle.records.specs.declared.surface.SurfaceInputPolicy.{SurfaceInputPolicy}
+use Rattle.records.specs.declared.trace.ArbitrationEvent.{ArbitrationEvent}
+use Rattle.records.specs.declared.trace.Hits.{Hits}
+use Rattle.records.specs.Layers.{isLive}
 use Rattle.composition_state.specs.Start.{started}
-use Rattle.composition_state.specs.Traces.{deliveries}
-use Rattle.composition_state.specs.Views.{viewAt, viewStatus}
+use Rattle.records.specs.Traces.{deliveries}
+use Rattle.records.specs.Views.{viewAt, viewStatus}
 use Rattle.composition_panels.specs.Windows.{createWindow, closeWindow, createView, closeView}
 use Rattle.composition_panels.specs.Metrics.{updateViewMetrics}
 use Rattle.composition_panels.specs.Panels.{attachSurface, updateSurfaceGeometry, updateSurfaceInputPolicy}

@@ -8,13 +8,13 @@ use denote.Laws.{Is}
 use denote.Struct.Laws as LL
 use Rattle.lists.specs.Tables.{entriesOf}
 use Rattle.lists.proofs.TableLaws as table
-use Rattle.composition_state.specs.Traces.{hits, deliveries}
-use Rattle.composition_state.specs.declared.trace.Deliveries.{Deliveries}
-use Rattle.composition_state.specs.declared.trace.Hits.{Hits}
-use Rattle.composition_state.proofs.trace.Deliveries as D
-use Rattle.composition_state.proofs.trace.Deliveries.Laws as D′
-use Rattle.composition_state.proofs.trace.Hits as H
-use Rattle.composition_state.proofs.trace.Hits.Laws as H′
+use Rattle.records.specs.Traces.{hits, deliveries}
+use Rattle.records.specs.declared.trace.Deliveries.{Deliveries}
+use Rattle.records.specs.declared.trace.Hits.{Hits}
+use Rattle.records.proofs.trace.Deliveries as D
+use Rattle.records.proofs.trace.Deliveries.Laws as D′
+use Rattle.records.proofs.trace.Hits as H
+use Rattle.records.proofs.trace.Hits.Laws as H′
 
 pub hits-long : (t : Hits) {vs : List Val} → Is H.the-row t vs → length (t .items) ≡ 16
 hits-long t {vs} p = sym (length-map (t .items) _) ∙ LL.owed H.the-type H′.the-laws t vs p .0 .1 .0 .1

@@ -6,14 +6,14 @@ use lib.Dec.{eqb}
 use lib.ListN.{getD}
 use Rattle.lists.specs.Lists.{keep}
 use Rattle.lists.specs.Tables.{entriesOf}
-use Rattle.composition_state.specs.Shortcuts.{shortcuts}
-use Rattle.composition_state.specs.Surfaces.{noSurface}
-use Rattle.composition_state.specs.declared.shortcut.ShortcutScope.{ShortcutScope}
-use Rattle.composition_state.specs.declared.shortcut.ShortcutScope.the-variants.{View, Window, Session}
-use Rattle.composition_state.specs.declared.shortcut.Shortcuts.{Shortcuts}
-use Rattle.composition_state.specs.declared.shortcut.SlotShortcut.{SlotShortcut}
-use Rattle.composition_state.specs.declared.surface.SurfaceRecord.{SurfaceRecord}
-use Rattle.composition_state.specs.declared.surface.SurfaceTable.{SurfaceTable}
+use Rattle.records.specs.Shortcuts.{shortcuts}
+use Rattle.records.specs.Surfaces.{noSurface}
+use Rattle.records.specs.declared.shortcut.ShortcutScope.{ShortcutScope}
+use Rattle.records.specs.declared.shortcut.ShortcutScope.the-variants.{View, Window, Session}
+use Rattle.records.specs.declared.shortcut.Shortcuts.{Shortcuts}
+use Rattle.records.specs.declared.shortcut.SlotShortcut.{SlotShortcut}
+use Rattle.records.specs.declared.surface.SurfaceRecord.{SurfaceRecord}
+use Rattle.records.specs.declared.surface.SurfaceTable.{SurfaceTable}
 use Rattle.answer_numbers.specs.Groups.{descriptorNumbers}
 use Rattle.answer_numbers.specs.Numbers.{Number, plain, signed, listNumbers}
 use Rattle.registry_dump.specs.Arenas.{arenaNumbers}

@@ -1,9 +1,9 @@
 -- The whole registry as numbers: its dump.
 use mathlib.Core.List.{List, [], _∷_, _++_}
 use Rattle.handles.specs.declared.arena.Arena.{Arena}
-use Rattle.composition_state.specs.declared.shortcut.Shortcuts.{Shortcuts}
-use Rattle.composition_state.specs.declared.surface.SurfaceTable.{SurfaceTable}
-use Rattle.composition_state.specs.declared.view.ViewTable.{ViewTable}
+use Rattle.records.specs.declared.shortcut.Shortcuts.{Shortcuts}
+use Rattle.records.specs.declared.surface.SurfaceTable.{SurfaceTable}
+use Rattle.records.specs.declared.view.ViewTable.{ViewTable}
 use Rattle.composition_state.specs.declared.registry.CompositionLimits.{CompositionLimits}
 use Rattle.composition_state.specs.declared.registry.CompositionRegistry.{CompositionRegistry}
 use Rattle.answer_numbers.specs.Groups.{handleNumbers}

@@ -2,17 +2,17 @@
 use Prim.Native.Nat.{ℕ}
 use mathlib.Core.List.{List, [], _∷_, _++_}
 use Rattle.lists.specs.Tables.{entriesOf}
-use Rattle.handles.specs.declared.handle.OptionalHandle.{OptionalHandle}
-use Rattle.handles.specs.declared.handle.OptionalHandle.the-variants.{None}
+use Rattle.handles.specs.declared.OptionalHandle.{OptionalHandle}
+use Rattle.handles.specs.declared.OptionalHandle.the-variants.{None}
 use Rattle.maps.specs.declared.keys.CompositionPointerId.{CompositionPointerId}
-use Rattle.composition_state.specs.Traces.{hits, deliveries, traces}
-use Rattle.composition_state.specs.declared.trace.ArbitrationEvent.{ArbitrationEvent}
-use Rattle.composition_state.specs.declared.trace.ArbitrationEvent.the-variants as E
-use Rattle.composition_state.specs.declared.trace.CompositionTrace.{CompositionTrace}
-use Rattle.composition_state.specs.declared.trace.Deliveries.{Deliveries}
-use Rattle.composition_state.specs.declared.trace.Hits.{Hits}
-use Rattle.composition_state.specs.declared.trace.InputDelivery.{InputDelivery}
-use Rattle.composition_state.specs.declared.trace.Traces.{Traces}
+use Rattle.records.specs.Traces.{hits, deliveries, traces}
+use Rattle.records.specs.declared.trace.ArbitrationEvent.{ArbitrationEvent}
+use Rattle.records.specs.declared.trace.ArbitrationEvent.the-variants as E
+use Rattle.records.specs.declared.trace.CompositionTrace.{CompositionTrace}
+use Rattle.records.specs.declared.trace.Deliveries.{Deliveries}
+use Rattle.records.specs.declared.trace.Hits.{Hits}
+use Rattle.records.specs.declared.trace.InputDelivery.{InputDelivery}
+use Rattle.records.specs.declared.trace.Traces.{Traces}
 use Rattle.answer_numbers.specs.Groups.{handleNumbers, optionalNumbers, pointerNumbers}
 use Rattle.answer_numbers.specs.Numbers.{Number, plain, flag, listNumbers}
 use Rattle.registry_dump.specs.declared.events.EventFields.{EventFields}

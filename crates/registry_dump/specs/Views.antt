@@ -2,16 +2,16 @@
 use mathlib.Core.List.{List, _++_}
 use lib.ListN.{getD}
 use Rattle.lists.specs.Tables.{entriesOf}
-use Rattle.handles.specs.declared.handle.GenerationalHandle.{GenerationalHandle}
+use Rattle.handles.specs.declared.GenerationalHandle.{GenerationalHandle}
 use Rattle.maps.specs.Captures.{captures}
 use Rattle.maps.specs.declared.captures.PointerCaptures.{PointerCaptures}
-use Rattle.composition_state.specs.Layers.{layers}
-use Rattle.composition_state.specs.Surfaces.{descriptorOf}
-use Rattle.composition_state.specs.Views.{noView}
-use Rattle.composition_state.specs.declared.layers.Layers.{Layers}
-use Rattle.composition_state.specs.declared.surface.SurfaceTable.{SurfaceTable}
-use Rattle.composition_state.specs.declared.view.ViewRecord.{ViewRecord}
-use Rattle.composition_state.specs.declared.view.ViewTable.{ViewTable}
+use Rattle.records.specs.Layers.{layers}
+use Rattle.records.specs.Surfaces.{descriptorOf}
+use Rattle.records.specs.Views.{noView}
+use Rattle.records.specs.declared.layers.Layers.{Layers}
+use Rattle.records.specs.declared.surface.SurfaceTable.{SurfaceTable}
+use Rattle.records.specs.declared.view.ViewRecord.{ViewRecord}
+use Rattle.records.specs.declared.view.ViewTable.{ViewTable}
 use Rattle.answer_numbers.specs.Groups.{handleNumbers, optionalNumbers, captureNumbers, metricsNumbers, descriptorNumbers}
 use Rattle.answer_numbers.specs.Lists.{layersNumbers}
 use Rattle.answer_numbers.specs.Numbers.{Number, listNumbers}

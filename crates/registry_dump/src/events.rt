@@ -1,9 +1,9 @@
 // An event as the fields that every kind is written with.
 ghost use mathlib.Core.Path.{_≡_};
 ghost use Rattle.registry_dump.specs.Traces.{eventFields};
-use composition_state::trace::ArbitrationEvent;
-use handles::handle::OptionalHandle;
+use handles::OptionalHandle;
 use maps::keys::CompositionPointerId;
+use records::trace::ArbitrationEvent;
 
 // What a kind has not is none or 0.
 pub struct EventFields {

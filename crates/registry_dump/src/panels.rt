@@ -6,8 +6,8 @@ ghost use mathlib.Core.Path.{_≡_};
 ghost use lib.ListN.{length, getD};
 ghost use Rattle.lists.specs.Lists.{keep};
 ghost use Rattle.lists.specs.Tables.{entriesOf};
-ghost use Rattle.composition_state.specs.Shortcuts.{shortcuts};
-ghost use Rattle.composition_state.specs.Surfaces.{noSurface};
+ghost use Rattle.records.specs.Shortcuts.{shortcuts};
+ghost use Rattle.records.specs.Surfaces.{noSurface};
 ghost use Rattle.answer_numbers.specs.declared.sink.Sink.{Sink};
 ghost use Rattle.answer_numbers.specs.Numbers.{numbersTaken};
 ghost use Rattle.registry_dump.specs.Arenas.{slotNumbers, usedSlots};
@@ -20,15 +20,15 @@ use answer_numbers::sink::take_count;
 use answer_numbers::sink::take_plain;
 use answer_numbers::sink::take_signed;
 use answer_numbers::tally::one_if;
-use composition_state::shortcut::ShortcutScope;
-use composition_state::shortcut::Shortcuts;
-use composition_state::shortcut::SlotShortcut;
-use composition_state::surface::SurfaceRecord;
-use composition_state::surface::SurfaceTable;
-use composition_state::surface::record_at;
 use handles::arena::Slot;
 use handles::arena::slot_at;
 use handles::arena::used_places;
+use records::shortcut::ShortcutScope;
+use records::shortcut::Shortcuts;
+use records::shortcut::SlotShortcut;
+use records::surface::SurfaceRecord;
+use records::surface::SurfaceTable;
+use records::surface::record_at;
 
 fn scope_number(scope: ShortcutScope) -> u64
     ensures { λ r. ⌜ r ≡ scopeNumber scope ⌝ }
@@ -106,8 +106,7 @@ fn take_panel(
 ) -> Sink
     ensures { λ r. ⌜ _≡_ {A = List ℕ × Sink} (now (out .exit), r) (numbersTaken (panelNumbers slot «record» shortcuts) (now (out .entry), sink)) ⌝ }
 {
-    let described = record.descriptor;
-    let next = take_descriptor(out, sink, described);
+    let next = take_descriptor(out, sink, record.descriptor);
     take_registrations(out, next, shortcuts, slot)
 }
 
@@ -159,7 +158,6 @@ fn take_panel_slots(
 pub fn take_panels(out: &mut [u8], sink: Sink, surfaces: SurfaceTable, shortcuts: Shortcuts) -> Sink
     ensures { λ r. ⌜ _≡_ {A = List ℕ × Sink} (now (out .exit), r) (numbersTaken (panelsNumbers surfaces shortcuts) (now (out .entry), sink)) ⌝ }
 {
-    let arena = surfaces.arena;
     let next = take_panel_slots(out, sink, surfaces, shortcuts);
-    take_arena_end(out, next, arena)
+    take_arena_end(out, next, surfaces.arena)
 }

@@ -20,11 +20,11 @@ use answer_numbers::sink::take_plain;
 use answer_numbers::sink::take_u32;
 use composition_state::registry::CompositionLimits;
 use composition_state::registry::CompositionRegistry;
-use composition_state::shortcut::Shortcuts;
-use composition_state::surface::SurfaceTable;
-use composition_state::view::ViewTable;
+use handles::GenerationalHandle;
 use handles::arena::Arena;
-use handles::handle::GenerationalHandle;
+use records::shortcut::Shortcuts;
+use records::surface::SurfaceTable;
+use records::view::ViewTable;
 
 fn take_limits(out: &mut [u8], sink: Sink, limits: CompositionLimits) -> Sink
     ensures { λ r. ⌜ _≡_ {A = List ℕ × Sink} (now (out .exit), r) (numbersTaken (limitsNumbers limits) (now (out .entry), sink)) ⌝ }
@@ -76,17 +76,23 @@ fn take_tables(
 pub fn take_registry(out: &mut [u8], sink: Sink, registry: CompositionRegistry) -> Sink
     ensures { λ r. ⌜ _≡_ {A = List ℕ × Sink} (now (out .exit), r) (numbersTaken (registryNumbers registry) (now (out .entry), sink)) ⌝ }
 {
-    let session = registry.session;
-    let limits = registry.limits;
-    let windows = registry.windows;
-    let views = registry.views;
-    let surfaces = registry.surfaces;
-    let shortcuts = registry.shortcuts;
-    let traces = registry.traces;
-    let a = take_owner(out, sink, session, registry.session_epoch);
-    let b = take_head(out, a, limits, registry.first_generation, registry.revision);
-    let c = take_tables(out, b, windows, views, surfaces, shortcuts);
-    take_traces(out, c, traces)
+    let a = take_owner(out, sink, registry.session, registry.session_epoch);
+    let b = take_head(
+        out,
+        a,
+        registry.limits,
+        registry.first_generation,
+        registry.revision,
+    );
+    let c = take_tables(
+        out,
+        b,
+        registry.windows,
+        registry.views,
+        registry.surfaces,
+        registry.shortcuts,
+    );
+    take_traces(out, c, registry.traces)
 }
 
 fn take_live(out: &mut [u8], sink: Sink, windows: usize, views: usize, surfaces: usize) -> Sink
@@ -101,8 +107,7 @@ fn take_live(out: &mut [u8], sink: Sink, windows: usize, views: usize, surfaces:
 pub fn take_counts(out: &mut [u8], sink: Sink, registry: CompositionRegistry) -> Sink
     ensures { λ r. ⌜ _≡_ {A = List ℕ × Sink} (now (out .exit), r) (numbersTaken (countsNumbers registry) (now (out .entry), sink)) ⌝ }
 {
-    let session = registry.session;
-    let a = take_owner(out, sink, session, registry.session_epoch);
+    let a = take_owner(out, sink, registry.session, registry.session_epoch);
     let b = take_plain(out, a, registry.revision);
     take_live(
         out,
@@ -119,8 +124,7 @@ pub fn registry_digest(registry: CompositionRegistry) -> u64
 {
     let mut unused = [0u8; 1];
     let sink = take_registry(&mut unused, sink_from(SinkKind::Digest, 0), registry);
-    let digest = sink.digest;
-    digest.value()
+    sink.digest.value()
 }
 
 // The worked example of the format.

@@ -4,7 +4,7 @@ ghost use mathlib.Core.List.{List};
 ghost use mathlib.Core.Path.{_≡_};
 ghost use lib.ListN.{length};
 ghost use Rattle.lists.specs.Tables.{entriesOf};
-ghost use Rattle.composition_state.specs.Traces.{hits, deliveries, traces};
+ghost use Rattle.records.specs.Traces.{hits, deliveries, traces};
 ghost use Rattle.answer_numbers.specs.declared.sink.Sink.{Sink};
 ghost use Rattle.answer_numbers.specs.Numbers.{numbersTaken};
 ghost use Rattle.registry_dump.specs.Traces.{fieldsNumbers, hitsNumbers, deliveryNumbers, deliveriesNumbers, traceNumbers, tracesNumbers};
@@ -17,19 +17,18 @@ use answer_numbers::sink::Sink;
 use answer_numbers::sink::take_count;
 use answer_numbers::sink::take_flag;
 use answer_numbers::sink::take_plain;
-use composition_state::trace::CompositionTrace;
-use composition_state::trace::Deliveries;
-use composition_state::trace::Hits;
-use composition_state::trace::InputDelivery;
-use composition_state::trace::Traces;
+use records::trace::CompositionTrace;
+use records::trace::Deliveries;
+use records::trace::Hits;
+use records::trace::InputDelivery;
+use records::trace::Traces;
 
 fn take_fields(out: &mut [u8], sink: Sink, fields: EventFields) -> Sink
     ensures { λ r. ⌜ _≡_ {A = List ℕ × Sink} (now (out .exit), r) (numbersTaken (fieldsNumbers fields) (now (out .entry), sink)) ⌝ }
 {
-    let pointer = fields.pointer;
     let target = fields.target;
     let a = take_plain(out, sink, fields.kind);
-    let b = take_pointer(out, a, pointer);
+    let b = take_pointer(out, a, fields.pointer);
     let c = take_optional(out, b, target);
     take_plain(out, c, fields.class_mask)
 }
@@ -72,8 +71,7 @@ fn count_deliveries(list: Deliveries) -> usize
 fn take_delivery(out: &mut [u8], sink: Sink, delivery: InputDelivery) -> Sink
     ensures { λ r. ⌜ _≡_ {A = List ℕ × Sink} (now (out .exit), r) (numbersTaken (deliveryNumbers delivery) (now (out .entry), sink)) ⌝ }
 {
-    let surface = delivery.surface;
-    let next = take_handle(out, sink, surface);
+    let next = take_handle(out, sink, delivery.surface);
     take_flag(out, next, delivery.observed)
 }
 
@@ -94,16 +92,13 @@ pub fn take_deliveries(out: &mut [u8], sink: Sink, deliveries: Deliveries) -> Si
 fn take_trace(out: &mut [u8], sink: Sink, trace: CompositionTrace) -> Sink
     ensures { λ r. ⌜ _≡_ {A = List ℕ × Sink} (now (out .exit), r) (numbersTaken (traceNumbers trace) (now (out .entry), sink)) ⌝ }
 {
-    let view = trace.view;
     let event = trace.event;
-    let hits = trace.hits;
-    let deliveries = trace.deliveries;
     let consumer = trace.consumed_by;
     let a = take_plain(out, sink, trace.revision);
-    let b = take_handle(out, a, view);
+    let b = take_handle(out, a, trace.view);
     let c = take_fields(out, b, event_fields(event));
-    let d = take_hits(out, c, hits);
-    let e = take_deliveries(out, d, deliveries);
+    let d = take_hits(out, c, trace.hits);
+    let e = take_deliveries(out, d, trace.deliveries);
     take_optional(out, e, consumer)
 }
 

@@ -3,7 +3,7 @@ ghost use Prim.Native.Nat.{ℕ};
 ghost use mathlib.Core.List.{List, _++_};
 ghost use mathlib.Core.Path.{_≡_};
 ghost use lib.ListN.{getD};
-ghost use Rattle.composition_state.specs.Views.{noView};
+ghost use Rattle.records.specs.Views.{noView};
 ghost use Rattle.answer_numbers.specs.declared.sink.Sink.{Sink};
 ghost use Rattle.answer_numbers.specs.Groups.{handleNumbers, descriptorNumbers};
 ghost use Rattle.answer_numbers.specs.Numbers.{numbersTaken};
@@ -19,17 +19,17 @@ use answer_numbers::groups::take_optional;
 use answer_numbers::handle_lists::take_layers;
 use answer_numbers::sink::Sink;
 use answer_numbers::sink::take_count;
-use composition_state::layers::Layers;
-use composition_state::surface::SurfaceDescriptor;
-use composition_state::surface::SurfaceTable;
-use composition_state::view::ViewRecord;
-use composition_state::view::ViewTable;
-use composition_state::view::record_at;
+use handles::GenerationalHandle;
 use handles::arena::Slot;
 use handles::arena::slot_at;
 use handles::arena::used_places;
-use handles::handle::GenerationalHandle;
 use maps::captures::PointerCaptures;
+use records::layers::Layers;
+use records::surface::SurfaceDescriptor;
+use records::surface::SurfaceTable;
+use records::view::ViewRecord;
+use records::view::ViewTable;
+use records::view::record_at;
 
 // The captured pointers with their panels, by rising key.
 pub fn take_captures(out: &mut [u8], sink: Sink, captures: PointerCaptures) -> Sink
@@ -77,19 +77,15 @@ pub fn take_view_layers(out: &mut [u8], sink: Sink, layers: Layers, surfaces: Su
 fn take_view(out: &mut [u8], sink: Sink, view: ViewRecord) -> Sink
     ensures { λ r. ⌜ _≡_ {A = List ℕ × Sink} (now (out .exit), r) (numbersTaken (viewNumbers view) (now (out .entry), sink)) ⌝ }
 {
-    let window = view.window;
-    let metrics = view.metrics;
-    let layers = view.surfaces;
     let focus = view.focus;
     let single = view.pointer_capture;
-    let captures = view.pointer_captures;
     let ime = view.ime;
-    let a = take_handle(out, sink, window);
-    let b = take_metrics(out, a, metrics);
-    let c = take_layers(out, b, layers);
+    let a = take_handle(out, sink, view.window);
+    let b = take_metrics(out, a, view.metrics);
+    let c = take_layers(out, b, view.surfaces);
     let d = take_optional(out, c, focus);
     let e = take_optional(out, d, single);
-    let f = take_captures(out, e, captures);
+    let f = take_captures(out, e, view.pointer_captures);
     take_optional(out, f, ime)
 }
 
@@ -122,7 +118,6 @@ fn take_view_slots(out: &mut [u8], sink: Sink, views: ViewTable) -> Sink
 pub fn take_views(out: &mut [u8], sink: Sink, views: ViewTable) -> Sink
     ensures { λ r. ⌜ _≡_ {A = List ℕ × Sink} (now (out .exit), r) (numbersTaken (viewsNumbers views) (now (out .entry), sink)) ⌝ }
 {
-    let arena = views.arena;
     let next = take_view_slots(out, sink, views);
-    take_arena_end(out, next, arena)
+    take_arena_end(out, next, views.arena)
 }

@@ -1,5 +1,5 @@
 -- The calls on the registry alone that list nothing, each sent to the definition of its call.
-use Rattle.handles.specs.declared.handle.OptionalHandle.the-variants as handle
+use Rattle.handles.specs.declared.OptionalHandle.the-variants as handle
 use Rattle.composition_state.specs.declared.registry.Changed.{Changed}
 use Rattle.composition_state.specs.declared.registry.CompositionRegistry.{CompositionRegistry}
 use Rattle.composition_panels.specs.declared.answer.Created.{Created}

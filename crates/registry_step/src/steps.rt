@@ -29,10 +29,10 @@ use composition_shortcuts::register::Registrations;
 use composition_shortcuts::register::register_surface_system_shortcut_set;
 use composition_shortcuts::register::register_surface_system_shortcuts;
 use composition_shortcuts::register::set_surface_system_shortcuts;
-use composition_state::error::Outcome;
 use composition_state::registry::Changed;
 use composition_state::registry::CompositionRegistry;
-use handles::handle::OptionalHandle;
+use handles::OptionalHandle;
+use records::error::Outcome;
 
 // What such a call answers, and the registry after it. What a call does not answer is `None`.
 pub struct RegistryStepped {
@@ -117,14 +117,12 @@ pub fn panel_step(registry: CompositionRegistry, call: PanelCall) -> RegistrySte
         PanelCall::CloseView(view) => of_changed(close_view(registry, view)),
         PanelCall::AttachSurface(descriptor) => of_created(attach_surface(registry, descriptor)),
         PanelCall::UpdateSurfaceGeometry(given) => {
-            let surface = given.surface;
             let geometry = given.geometry;
-            of_changed(update_surface_geometry(registry, surface, geometry, given.revision))
+            of_changed(update_surface_geometry(registry, given.surface, geometry, given.revision))
         }
         PanelCall::UpdateSurfaceInputPolicy(given) => {
-            let surface = given.surface;
             let input = given.input;
-            of_changed(update_surface_input_policy(registry, surface, input, given.revision))
+            of_changed(update_surface_input_policy(registry, given.surface, input, given.revision))
         }
     }
 }
@@ -139,8 +137,7 @@ pub fn input_step(registry: CompositionRegistry, call: InputCall) -> RegistrySte
             of_changed(set_focus(registry, view, surface, given.revision))
         }
         InputCall::CapturePointer(given) => {
-            let surface = given.handle;
-            of_changed(capture_pointer(registry, surface, given.revision))
+            of_changed(capture_pointer(registry, given.handle, given.revision))
         }
         InputCall::CapturePointerFor(given) => {
             let pointer = given.pointer;
@@ -148,8 +145,7 @@ pub fn input_step(registry: CompositionRegistry, call: InputCall) -> RegistrySte
             of_changed(capture_pointer_for(registry, pointer, surface, given.revision))
         }
         InputCall::ReleasePointer(given) => {
-            let surface = given.handle;
-            of_changed(release_pointer(registry, surface, given.revision))
+            of_changed(release_pointer(registry, given.handle, given.revision))
         }
         InputCall::ReleasePointerFor(given) => {
             let pointer = given.pointer;
@@ -157,16 +153,11 @@ pub fn input_step(registry: CompositionRegistry, call: InputCall) -> RegistrySte
             of_changed(release_pointer_for(registry, pointer, surface, given.revision))
         }
         InputCall::BeginIme(given) => {
-            let surface = given.handle;
-            of_changed(begin_ime(registry, surface, given.revision))
+            of_changed(begin_ime(registry, given.handle, given.revision))
         }
-        InputCall::EndIme(given) => {
-            let surface = given.handle;
-            of_changed(end_ime(registry, surface, given.revision))
-        }
+        InputCall::EndIme(given) => of_changed(end_ime(registry, given.handle, given.revision)),
         InputCall::SuspendViewInput(given) => {
-            let view = given.handle;
-            of_suspended(suspend_view_input(registry, view, given.revision))
+            of_suspended(suspend_view_input(registry, given.handle, given.revision))
         }
     }
 }
@@ -189,20 +180,18 @@ pub fn shortcut_step(
             ))
         }
         ShortcutCall::RegisterOne(given) => {
-            let surface = given.surface;
             let registration = given.registration;
             of_changed(register_surface_system_shortcuts(
                 registry,
-                surface,
+                given.surface,
                 registration,
                 given.revision,
             ))
         }
         ShortcutCall::SetMask(given) => {
-            let surface = given.surface;
             of_changed(set_surface_system_shortcuts(
                 registry,
-                surface,
+                given.surface,
                 given.class_mask,
                 given.revision,
             ))

@@ -1,10 +1,10 @@
 -- The replay format, State: "An accepted `new`, `new_at` or `router` replaces its own of the two and leaves the other; a refused one leaves both."
 use Prim.Native.Nat.{ℕ}
 use Rattle.handles.specs.Handles.{handleOf}
-use Rattle.composition_state.specs.declared.error.Outcome.{Outcome}
-use Rattle.composition_state.specs.declared.error.Outcome.the-variants as composition
+use Rattle.records.specs.declared.error.Outcome.{Outcome}
+use Rattle.records.specs.declared.error.Outcome.the-variants as composition
 use Rattle.composition_state.specs.declared.registry.CompositionRegistry.{CompositionRegistry}
-use Rattle.composition_state.specs.Errors.{numberOf}
+use Rattle.records.specs.Errors.{numberOf}
 use Rattle.composition_state.specs.Start.{started}
 use Rattle.input_router.specs.declared.router.PlatformInputRouter.{PlatformInputRouter}
 use Rattle.input_router.specs.declared.router.StartOutcome.{StartOutcome}

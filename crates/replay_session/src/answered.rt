@@ -25,9 +25,15 @@ fn next_call(calls: u64) -> u64
 pub fn answer_line(out: &mut [u8], session: Session, line: Line) -> Answered
     ensures { λ r. ⌜ _≡_ {A = List ℕ × Answered} (now (out .exit), r) (answeredLine session line (now (out .entry))) ⌝ }
 {
-    let counter = session.counter;
     let asked = read_call(line);
     let lists = read_lists(line);
     let calls = next_call(session.calls);
-    answer_call(out, calls, session.are_digests_shown, counter, asked, lists)
+    answer_call(
+        out,
+        calls,
+        session.are_digests_shown,
+        session.counter,
+        asked,
+        lists,
+    )
 }

@@ -64,10 +64,8 @@ fn answer_step(
     ensures { λ r. ⌜ _≡_ {A = List ℕ × Answered} (now (out .exit), r) (answeredStep calls «are_digests_shown» counter call lists (now (out .entry))) ⌝ }
 {
     let stepped = step(counter, call, lists);
-    let answer = stepped.answer;
-    let after = stepped.counter;
-    let at = put_answer(out, calls, call, answer, after);
-    finish(out, at, calls, are_digests_shown, after)
+    let at = put_answer(out, calls, call, stepped.answer, stepped.counter);
+    finish(out, at, calls, are_digests_shown, stepped.counter)
 }
 
 // A call that shows nothing beside its number.
@@ -80,31 +78,33 @@ fn answer_plain(
 ) -> Answered
     ensures { λ r. ⌜ _≡_ {A = List ℕ × Answered} (now (out .exit), r) (answeredPlain calls «are_digests_shown» number counter (now (out .entry))) ⌝ }
 {
-    let registry = counter.registry;
-    let at = put_plain(out, calls, number, registry.revision);
+    let at = put_plain(out, calls, number, counter.registry.revision);
     finish(out, at, calls, are_digests_shown, counter)
 }
 
 fn answer_started(out: &mut [u8], calls: u64, are_digests_shown: bool, started: Started) -> Answered
     ensures { λ r. ⌜ _≡_ {A = List ℕ × Answered} (now (out .exit), r) (answeredStart calls «are_digests_shown» started (now (out .entry))) ⌝ }
 {
-    let counter = started.counter;
-    answer_plain(out, calls, are_digests_shown, started.number, counter)
+    answer_plain(
+        out,
+        calls,
+        are_digests_shown,
+        started.number,
+        started.counter,
+    )
 }
 
 fn answer_no_call(out: &mut [u8], calls: u64, are_digests_shown: bool, counter: Counter) -> Answered
     ensures { λ r. ⌜ _≡_ {A = List ℕ × Answered} (now (out .exit), r) (answeredNoCall calls «are_digests_shown» counter (now (out .entry))) ⌝ }
 {
-    let registry = counter.registry;
-    let at = put_no_call(out, calls, registry.revision);
+    let at = put_no_call(out, calls, counter.registry.revision);
     finish(out, at, calls, are_digests_shown, counter)
 }
 
 fn answer_state(out: &mut [u8], calls: u64, are_digests_shown: bool, counter: Counter) -> Answered
     ensures { λ r. ⌜ _≡_ {A = List ℕ × Answered} (now (out .exit), r) (answeredSession calls «are_digests_shown» counter State (now (out .entry))) ⌝ }
 {
-    let registry = counter.registry;
-    let at = put_state(out, calls, registry);
+    let at = put_state(out, calls, counter.registry);
     finish(out, at, calls, are_digests_shown, counter)
 }
 
@@ -116,9 +116,7 @@ fn answer_router_state(
 ) -> Answered
     ensures { λ r. ⌜ _≡_ {A = List ℕ × Answered} (now (out .exit), r) (answeredSession calls «are_digests_shown» counter RouterState (now (out .entry))) ⌝ }
 {
-    let registry = counter.registry;
-    let router = counter.router;
-    let at = put_router_state(out, calls, registry.revision, router);
+    let at = put_router_state(out, calls, counter.registry.revision, counter.router);
     finish(out, at, calls, are_digests_shown, counter)
 }
 

@@ -1,15 +1,15 @@
 // The starts of a registry and of a router in a script: an accepted one replaces its own of the two, and a refused one leaves both.
 ghost use mathlib.Core.Path.{_≡_};
 ghost use Rattle.replay_session.specs.Starts.{registryKept, startedRegistry, routerKept, startedRouter, firstCounter};
-use composition_state::error::Outcome;
-use composition_state::error::number;
 use composition_state::registry::CompositionLimits;
 use composition_state::registry::CompositionRegistry;
 use counter::step::Counter;
-use handles::handle::GenerationalHandle;
+use handles::GenerationalHandle;
 use input_router::router::PlatformInputRouter;
 use input_router::router::StartOutcome;
 use input_router::router::start_number;
+use records::error::Outcome;
+use records::error::number;
 use script_calls::script_call::Start;
 
 pub struct Started {
@@ -33,20 +33,16 @@ fn keep_registry(
 pub fn start_registry(counter: Counter, given: Start) -> Started
     ensures { λ r. ⌜ r ≡ startedRegistry counter given ⌝ }
 {
-    let old = counter.registry;
     let router = counter.router;
-    let session = given.session;
-    let limits = given.limits;
     let started = CompositionRegistry::new_at(
-        session,
+        given.session,
         given.session_epoch,
-        limits,
+        given.limits,
         given.first_revision,
         given.first_generation,
     );
     let outcome = started.outcome;
-    let new = started.registry;
-    let registry = keep_registry(outcome, old, new);
+    let registry = keep_registry(outcome, counter.registry, started.registry);
     let after = Counter { registry, router };
     Started {
         number: number(outcome),
@@ -72,11 +68,10 @@ pub fn start_router(counter: Counter, limit: u64) -> Started
     ensures { λ r. ⌜ r ≡ startedRouter counter limit ⌝ }
 {
     let registry = counter.registry;
-    let old = counter.router;
     let started = PlatformInputRouter::new(limit);
     let outcome = started.outcome;
     let new = started.router;
-    let router = keep_router(outcome, old, new);
+    let router = keep_router(outcome, counter.router, new);
     let after = Counter { registry, router };
     Started {
         number: start_number(outcome),

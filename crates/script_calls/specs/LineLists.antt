@@ -3,7 +3,7 @@ use mathlib.Core.List.{[]}
 use Rattle.lists.specs.Tables.{packed}
 use Rattle.calls.specs.declared.call.Lists.{Lists}
 use Rattle.composition_shortcuts.specs.Register.{registrations}
-use Rattle.composition_state.specs.Traces.{hits}
+use Rattle.records.specs.Traces.{hits}
 use Rattle.script.specs.declared.line.Fields.{Fields}
 use Rattle.script.specs.declared.verb.StepVerb.{StepVerb}
 use Rattle.script.specs.declared.verb.StepVerb.the-variants.{Panel, Input, ReleaseDevicePointerCaptures, RegisterSurfaceSystemShortcutSet, Arbitrate, Close, Router, Read}

@@ -2,7 +2,7 @@
 use mathlib.Core.Bool.{_&&_}
 use Rattle.calls.specs.declared.call.PanelCall.{PanelCall}
 use Rattle.calls.specs.declared.call.PanelCall.the-variants.{CreateWindow, CloseWindow, CreateView, UpdateViewMetrics, CloseView, AttachSurface, UpdateSurfaceGeometry, UpdateSurfaceInputPolicy}
-use Rattle.handles.specs.declared.handle.GenerationalHandle.{GenerationalHandle}
+use Rattle.handles.specs.declared.GenerationalHandle.{GenerationalHandle}
 use Rattle.script.specs.declared.line.Fields.{Fields}
 use Rattle.script.specs.declared.verb.PanelVerb.{PanelVerb}
 use Rattle.script.specs.declared.verb.PanelVerb.the-variants as verb

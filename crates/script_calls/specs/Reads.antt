@@ -2,7 +2,7 @@
 use mathlib.Core.Bool.{_&&_}
 use Rattle.calls.specs.declared.call.ReadCall.{ReadCall}
 use Rattle.calls.specs.declared.call.ReadCall.the-variants.{ViewWindow, ViewMetrics, ViewInputState, ViewPointerCaptures, SurfaceDescriptor, ViewLayers, Traces, Counts, ActiveBindingCount, HitTestStack, InversePoint}
-use Rattle.handles.specs.declared.handle.GenerationalHandle.{GenerationalHandle}
+use Rattle.handles.specs.declared.GenerationalHandle.{GenerationalHandle}
 use Rattle.script.specs.declared.line.Fields.{Fields}
 use Rattle.script.specs.declared.verb.ReadVerb.{ReadVerb}
 use Rattle.script.specs.declared.verb.ReadVerb.the-variants as verb

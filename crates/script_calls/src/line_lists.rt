@@ -6,9 +6,9 @@ ghost use Rattle.composition_shortcuts.specs.Register.{registrations as given};
 ghost use Rattle.script_calls.specs.LineLists.{noLists, ofRegister, ofArbitrate, listsOf, listsBeside};
 use calls::call::Lists;
 use composition_shortcuts::register::Registrations;
-use composition_state::shortcut::ShortcutScope;
-use composition_state::shortcut::SurfaceShortcutRegistration;
-use composition_state::trace::Hits;
+use records::shortcut::ShortcutScope;
+use records::shortcut::SurfaceShortcutRegistration;
+use records::trace::Hits;
 use script::line::Fields;
 use script::line::Line;
 use script::verb::StepVerb;
@@ -86,10 +86,9 @@ pub fn read_lists(line: Line) -> Lists
     ensures { λ r. ⌜ r ≡ listsBeside (line .verb) (line .fields) ⌝ }
 {
     let verb = line.verb;
-    let fields = line.fields;
     match verb {
         Verb::Unknown => no_lists(),
         Verb::Session(_) => no_lists(),
-        Verb::Step(step) => lists_of(step, fields),
+        Verb::Step(step) => lists_of(step, line.fields),
     }
 }

@@ -1,5 +1,6 @@
 // The call that a line is, by its verb.
 ghost use mathlib.Core.Path.{_≡_};
+ghost use Rattle.script.specs.declared.verb.StepVerb.the-variants.{Panel, Input, ReleaseDevicePointerCaptures, RegisterSurfaceSystemShortcutSet, Arbitrate, Close, Router, Read};
 ghost use Rattle.script_calls.specs.Calls.{stepIn, stepIf, sessionIf, callOf};
 use crate::events::asked_arbitrate;
 use crate::events::asked_close;
@@ -16,6 +17,11 @@ use calls::call::Call;
 use calls::call::ShortcutCall;
 use script::line::Fields;
 use script::line::Line;
+use script::verb::CloseVerb;
+use script::verb::InputVerb;
+use script::verb::PanelVerb;
+use script::verb::ReadVerb;
+use script::verb::RouterVerb;
 use script::verb::StepVerb;
 use script::verb::Verb;
 
@@ -25,74 +31,106 @@ pub struct AskedCall {
     pub fits: bool,
 }
 
+fn panel_call(verb: PanelVerb, fields: Fields) -> AskedCall
+    ensures { λ r. ⌜ r ≡ stepIn (Panel verb) fields ⌝ }
+{
+    let asked = asked_panel(verb, fields);
+    let call = asked.call;
+    AskedCall {
+        call: Call::Panel(call),
+        fits: asked.fits,
+    }
+}
+
+fn input_call(verb: InputVerb, fields: Fields) -> AskedCall
+    ensures { λ r. ⌜ r ≡ stepIn (Input verb) fields ⌝ }
+{
+    let asked = asked_input(verb, fields);
+    let call = asked.call;
+    AskedCall {
+        call: Call::Input(call),
+        fits: asked.fits,
+    }
+}
+
+fn device_call(fields: Fields) -> AskedCall
+    ensures { λ r. ⌜ r ≡ stepIn ReleaseDevicePointerCaptures fields ⌝ }
+{
+    let asked = asked_device(fields);
+    let given = asked.given;
+    AskedCall {
+        call: Call::ReleaseDevice(given),
+        fits: asked.fits,
+    }
+}
+
+fn register_call(fields: Fields) -> AskedCall
+    ensures { λ r. ⌜ r ≡ stepIn RegisterSurfaceSystemShortcutSet fields ⌝ }
+{
+    let asked = asked_register(fields);
+    let given = asked.given;
+    AskedCall {
+        call: Call::Shortcut(ShortcutCall::RegisterSet(given)),
+        fits: asked.fits,
+    }
+}
+
+fn arbitrate_call(fields: Fields) -> AskedCall
+    ensures { λ r. ⌜ r ≡ stepIn Arbitrate fields ⌝ }
+{
+    let asked = asked_arbitrate(fields);
+    let given = asked.given;
+    AskedCall {
+        call: Call::Arbitrate(given),
+        fits: asked.fits,
+    }
+}
+
+fn close_call(verb: CloseVerb, fields: Fields) -> AskedCall
+    ensures { λ r. ⌜ r ≡ stepIn (Close verb) fields ⌝ }
+{
+    let asked = asked_close(verb, fields);
+    let call = asked.call;
+    AskedCall {
+        call: Call::Close(call),
+        fits: asked.fits,
+    }
+}
+
+fn router_call(verb: RouterVerb, fields: Fields) -> AskedCall
+    ensures { λ r. ⌜ r ≡ stepIn (Router verb) fields ⌝ }
+{
+    let asked = asked_router(verb, fields);
+    let call = asked.call;
+    AskedCall {
+        call: Call::Router(call),
+        fits: asked.fits,
+    }
+}
+
+fn read_out_call(verb: ReadVerb, fields: Fields) -> AskedCall
+    ensures { λ r. ⌜ r ≡ stepIn (Read verb) fields ⌝ }
+{
+    let asked = asked_read(verb, fields);
+    let call = asked.call;
+    AskedCall {
+        call: Call::Read(call),
+        fits: asked.fits,
+    }
+}
+
 fn asked_step(verb: StepVerb, fields: Fields) -> AskedCall
     ensures { λ r. ⌜ r ≡ stepIn verb fields ⌝ }
 {
     match verb {
-        StepVerb::Panel(panel) => {
-            let asked = asked_panel(panel, fields);
-            let call = asked.call;
-            AskedCall {
-                call: Call::Panel(call),
-                fits: asked.fits,
-            }
-        }
-        StepVerb::Input(input) => {
-            let asked = asked_input(input, fields);
-            let call = asked.call;
-            AskedCall {
-                call: Call::Input(call),
-                fits: asked.fits,
-            }
-        }
-        StepVerb::ReleaseDevicePointerCaptures => {
-            let asked = asked_device(fields);
-            let given = asked.given;
-            AskedCall {
-                call: Call::ReleaseDevice(given),
-                fits: asked.fits,
-            }
-        }
-        StepVerb::RegisterSurfaceSystemShortcutSet => {
-            let asked = asked_register(fields);
-            let given = asked.given;
-            AskedCall {
-                call: Call::Shortcut(ShortcutCall::RegisterSet(given)),
-                fits: asked.fits,
-            }
-        }
-        StepVerb::Arbitrate => {
-            let asked = asked_arbitrate(fields);
-            let given = asked.given;
-            AskedCall {
-                call: Call::Arbitrate(given),
-                fits: asked.fits,
-            }
-        }
-        StepVerb::Close(close) => {
-            let asked = asked_close(close, fields);
-            let call = asked.call;
-            AskedCall {
-                call: Call::Close(call),
-                fits: asked.fits,
-            }
-        }
-        StepVerb::Router(router) => {
-            let asked = asked_router(router, fields);
-            let call = asked.call;
-            AskedCall {
-                call: Call::Router(call),
-                fits: asked.fits,
-            }
-        }
-        StepVerb::Read(read) => {
-            let asked = asked_read(read, fields);
-            let call = asked.call;
-            AskedCall {
-                call: Call::Read(call),
-                fits: asked.fits,
-            }
-        }
+        StepVerb::Panel(panel) => panel_call(panel, fields),
+        StepVerb::Input(input) => input_call(input, fields),
+        StepVerb::ReleaseDevicePointerCaptures => device_call(fields),
+        StepVerb::RegisterSurfaceSystemShortcutSet => register_call(fields),
+        StepVerb::Arbitrate => arbitrate_call(fields),
+        StepVerb::Close(close) => close_call(close, fields),
+        StepVerb::Router(router) => router_call(router, fields),
+        StepVerb::Read(read) => read_out_call(read, fields),
     }
 }
 

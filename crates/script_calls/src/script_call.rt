@@ -1,7 +1,7 @@
 // What a line of a script asks for.
 use calls::call::Call;
 use composition_state::registry::CompositionLimits;
-use handles::handle::GenerationalHandle;
+use handles::GenerationalHandle;
 
 // The arguments of `new` and `new_at`; `new` starts at revision 0 and generation 1.
 pub struct Start {

@@ -11,7 +11,7 @@ use Rattle.lists.specs.Lists.{pad}
 use Rattle.lists.specs.Tables.{packed}
 use Rattle.lists.proofs.ListLaws.{map-snoc}
 use Rattle.handles.specs.Handles.{handleOf}
-use Rattle.handles.specs.declared.handle.GenerationalHandle.{GenerationalHandle}
+use Rattle.handles.specs.declared.GenerationalHandle.{GenerationalHandle}
 use Rattle.script_fields.specs.Groups.{handleAt}
 use Rattle.script_fields.specs.ListFields.{below, placed, handlesFrom, hitsFrom, noRegistration, registrationAt, listFrom, registrationsFrom}
 use Rattle.script_fields.specs.ListClaims.{ListClaims}

@@ -19,9 +19,9 @@ use borrow.Author.Tests.{ltb-true, ltb-false}
 use Rattle.lists.specs.Lists.{pad}
 use Rattle.lists.proofs.BelowLaws.{all-more}
 use Rattle.lists.proofs.ListLaws.{by-test, map-snoc, length-pad, push-pad}
-use Rattle.composition_state.specs.declared.trace.Hits.{Hits}
-use Rattle.composition_state.proofs.trace.Hits as H
-use Rattle.composition_state.proofs.trace.Hits.Laws as H′
+use Rattle.records.specs.declared.trace.Hits.{Hits}
+use Rattle.records.proofs.trace.Hits as H
+use Rattle.records.proofs.trace.Hits.Laws as H′
 use Rattle.handles.specs.Handles.{handleOf}
 use Rattle.script.specs.declared.line.Fields.{Fields}
 use Rattle.script.proofs.RangeLaws.{unsigned-most}

@@ -4,8 +4,8 @@ use mathlib.Core.Bool.{Bool, true, false, _&&_}
 use lib.Dec.{eqb}
 use lib.ListN.{getD}
 use Rattle.handles.specs.Handles.{handleOf}
-use Rattle.handles.specs.declared.handle.GenerationalHandle.{GenerationalHandle}
-use Rattle.handles.specs.declared.handle.OptionalHandle.the-variants.{None, Some}
+use Rattle.handles.specs.declared.GenerationalHandle.{GenerationalHandle}
+use Rattle.handles.specs.declared.OptionalHandle.the-variants.{None, Some}
 use Rattle.script.specs.Lines.{zeroNumber}
 use Rattle.script.specs.Ranges.{unsignedOf, isWithin}
 use Rattle.script.specs.declared.fields.FieldU16.{FieldU16}

@@ -5,7 +5,7 @@ use lib.ListN.{getD}
 use Rattle.lists.specs.Lists.{pad}
 use Rattle.lists.specs.Tables.{packed}
 use Rattle.handles.specs.Handles.{handleOf}
-use Rattle.composition_state.specs.Traces.{hits}
+use Rattle.records.specs.Traces.{hits}
 use Rattle.script.specs.declared.line.Fields.{Fields}
 use Rattle.script_fields.specs.Groups.{handleAt}
 use Rattle.script_fields.specs.ListFields.{handlesFrom, hitsFrom, noRegistration, registrationAt, listFrom, registrationsFrom}

@@ -8,10 +8,10 @@ use lib.ListN.{take, replicate}
 use Rattle.lists.specs.Below.{allBelow}
 use Rattle.lists.specs.Lists.{pad}
 use Rattle.handles.specs.Handles.{handleOf}
-use Rattle.handles.specs.declared.handle.GenerationalHandle.{GenerationalHandle}
-use Rattle.composition_state.specs.declared.shortcut.ShortcutScope.{ShortcutScope}
-use Rattle.composition_state.specs.declared.shortcut.ShortcutScope.the-variants.{View, Window, Session}
-use Rattle.composition_state.specs.declared.shortcut.SurfaceShortcutRegistration.{SurfaceShortcutRegistration}
+use Rattle.handles.specs.declared.GenerationalHandle.{GenerationalHandle}
+use Rattle.records.specs.declared.shortcut.ShortcutScope.{ShortcutScope}
+use Rattle.records.specs.declared.shortcut.ShortcutScope.the-variants.{View, Window, Session}
+use Rattle.records.specs.declared.shortcut.SurfaceShortcutRegistration.{SurfaceShortcutRegistration}
 use Rattle.script.specs.Ranges.{unsignedOf, isWithin, signedOf, isWithinSigned}
 use Rattle.script.specs.declared.fields.FieldI16.{FieldI16}
 use Rattle.script.specs.declared.line.Fields.{Fields}

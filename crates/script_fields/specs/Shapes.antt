@@ -2,10 +2,10 @@
 use Prim.Native.Nat.{ℕ, _+_}
 use mathlib.Core.Bool.{Bool, true, false, cond, _&&_}
 use lib.Dec.{eqb}
-use Rattle.composition_state.specs.declared.surface.SurfaceInputPolicy.{SurfaceInputPolicy}
-use Rattle.composition_state.specs.declared.surface.SurfaceInputPolicy.the-variants.{Observe, Passthrough, Interactive, Exclusive}
-use Rattle.composition_state.specs.declared.surface.SurfaceKind.{SurfaceKind}
-use Rattle.composition_state.specs.declared.surface.SurfaceKind.the-variants.{Game, Ui, Diagnostics}
+use Rattle.records.specs.declared.surface.SurfaceInputPolicy.{SurfaceInputPolicy}
+use Rattle.records.specs.declared.surface.SurfaceInputPolicy.the-variants.{Observe, Passthrough, Interactive, Exclusive}
+use Rattle.records.specs.declared.surface.SurfaceKind.{SurfaceKind}
+use Rattle.records.specs.declared.surface.SurfaceKind.the-variants.{Game, Ui, Diagnostics}
 use Rattle.geometry.specs.declared.metrics.ViewVisibility.{ViewVisibility}
 use Rattle.geometry.specs.declared.metrics.ViewVisibility.the-variants.{Visible, Hidden, Suspended}
 use Rattle.geometry.specs.declared.rect.OptionalRect.the-variants.{None, Some}

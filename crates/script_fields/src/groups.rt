@@ -2,8 +2,8 @@
 ghost use mathlib.Core.Path.{_≡_};
 ghost use Rattle.script_fields.specs.Groups.{u16At, u32At, u64At, handleAt, isZeroHandle, optionalOf, optionalAt, pointerAt, limitsAt};
 use composition_state::registry::CompositionLimits;
-use handles::handle::GenerationalHandle;
-use handles::handle::OptionalHandle;
+use handles::GenerationalHandle;
+use handles::OptionalHandle;
 use lists::both;
 use maps::keys::CompositionPointerId;
 use script::fields::FieldU16;

@@ -10,14 +10,14 @@ use lib.Seq.{take-suc, take-length}
 use Rattle.lists.specs.Tables.{entriesOf, packed, pushed}
 use Rattle.lists.proofs.ListLaws.{map-snoc}
 use Rattle.lists.proofs.TableLaws.{entry, len-packed, push-packed}
-use Rattle.handles.specs.declared.handle.GenerationalHandle.{GenerationalHandle}
+use Rattle.handles.specs.declared.GenerationalHandle.{GenerationalHandle}
 use Rattle.composition_reads.specs.declared.Descriptors.{Descriptors}
 use Rattle.composition_reads.specs.Reads.{descriptors}
-use Rattle.composition_state.specs.declared.layers.Layers.{Layers}
-use Rattle.composition_state.specs.declared.surface.SurfaceTable.{SurfaceTable}
-use Rattle.composition_state.specs.Layers.{layers}
-use Rattle.composition_state.specs.Surfaces.{descriptorOf}
-use Rattle.composition_state.proofs.LayerLaws.{few}
+use Rattle.records.specs.declared.layers.Layers.{Layers}
+use Rattle.records.specs.declared.surface.SurfaceTable.{SurfaceTable}
+use Rattle.records.specs.Layers.{layers}
+use Rattle.records.specs.Surfaces.{descriptorOf}
+use Rattle.records.proofs.LayerLaws.{few}
 use Rattle.composition_reads.proofs.describe.Statement.{statement}
 use Rattle.composition_reads.proofs.describe.Tie as tie
 

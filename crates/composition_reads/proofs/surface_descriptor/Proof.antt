@@ -10,7 +10,7 @@ descriptor-requires : tie.Need-descriptor-requires
 descriptor-requires c κs = search needs
 
 returns : tie.Need-returns
-returns c = rw (c .descriptor .ensures, c .before .before .surface-read-refusal .ensures)
+returns c = rw (c .descriptor .ensures, c .before .surface-read-refusal .ensures)
 
 pub surface-descriptor-spec : {M : Type 1} → statement M
 surface-descriptor-spec =

@@ -13,7 +13,7 @@ input-state-requires : tie.Need-input-state-requires
 input-state-requires c κs = search needs
 
 returns : tie.Need-returns
-returns c = rw (c .input-state .ensures, c .before .«record» .ensures, c .before .before .before .view-read-refusal .ensures)
+returns c = rw (c .input-state .ensures, c .before .«record» .ensures, c .before .before .view-read-refusal .ensures)
 
 pub view-input-state-spec : {M : Type 1} → statement M
 view-input-state-spec =

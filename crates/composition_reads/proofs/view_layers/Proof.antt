@@ -13,7 +13,7 @@ describe-requires : tie.Need-describe-requires
 describe-requires c κs = search needs
 
 returns : tie.Need-returns
-returns c = rw (c .describe .ensures, c .before .before .before .«record» .ensures, c .before .before .before .before .before .view-read-refusal .ensures)
+returns c = rw (c .describe .ensures, c .before .before .«record» .ensures, c .before .before .before .view-read-refusal .ensures)
 
 pub view-layers-spec : {M : Type 1} → statement M
 view-layers-spec =

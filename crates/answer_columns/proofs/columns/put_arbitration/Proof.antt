@@ -3,7 +3,7 @@ use Prim.Native.Nat.{ℕ}
 use mathlib.Core.List.{List, _++_}
 use borrow.Author.Needs.{needs}
 use Rattle.lists.specs.Tables.{entriesOf}
-use Rattle.composition_state.specs.Traces.{deliveries}
+use Rattle.records.specs.Traces.{deliveries}
 use Rattle.answer_columns.specs.Pieces.{spacePieces, optionalPieces, listPieces}
 use Rattle.answer_columns.specs.Columns.{deliveryPieces}
 use Rattle.answer_columns.proofs.PieceLaws.{chain}
@@ -24,7 +24,7 @@ same-length c = search needs
 
 returns : tie.Need-returns
 returns c =
-    let a = c .before .before .before .before .before .before .before .before .before .before .before .before .before .before .args in
+    let a = c .before .before .before .before .before .before .before .before .before .before .before .before .before .args in
     let consumer : List (List ℕ) = optionalPieces (a .arbitration .«consumed_by») in
     chain (consumer ++ spacePieces) (listPieces deliveryPieces (entriesOf deliveries (a .arbitration .deliveries))) (a .out .now, a .at) (c .before .before .put-deliveries .ensures)
     (chain consumer spacePieces (a .out .now, a .at) (c .before .before .before .before .before .before .put-space .ensures) (c .before .before .before .before .before .before .before .before .before .before .put-optional-handle .ensures))

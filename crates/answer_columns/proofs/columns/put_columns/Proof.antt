@@ -30,7 +30,7 @@ same-length c = search needs
 returns : tie.Need-returns
 unfolding columnPieces
 returns c =
-    let a = c .before .before .before .before .before .before .before .before .before .before .before .before .before .before .before .before .before .before .before .before .before .before .before .args in
+    let a = c .before .before .before .before .before .before .before .before .before .before .before .before .before .before .before .before .before .before .args in
     let s : List ℕ × ℕ = (a .out .now, a .at) in
     let numbers : List (List ℕ) = numberPieces (a .calls) (routerNumberOf (a .answer .outcome)) (a .revision) in
     let given : List (List ℕ) = arbitrationPieces (a .answer .report .arbitration) in

@@ -7,7 +7,7 @@ use lib.ListN.{length, take}
 use lib.Seq.{take-length}
 use borrow.Author.Needs.{needs}
 use Rattle.lists.specs.Tables.{entriesOf}
-use Rattle.composition_state.specs.Traces.{deliveries}
+use Rattle.records.specs.Traces.{deliveries}
 use Rattle.input_events.proofs.DeliveryLaws.{few}
 use Rattle.answer_columns.specs.Pieces.{putAll, entryPieces}
 use Rattle.answer_columns.specs.Columns.{deliveryPieces}

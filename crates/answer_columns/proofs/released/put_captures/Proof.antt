@@ -7,8 +7,8 @@ use lib.ListN.{length, take}
 use lib.Seq.{take-length}
 use borrow.Author.Needs.{needs}
 use Rattle.lists.specs.Tables.{entriesOf}
-use Rattle.composition_input.specs.Captures.{captureList}
-use Rattle.input_router.proofs.ReleaseListLaws.{few-captures}
+use Rattle.release_lists.specs.Captures.{captureList}
+use Rattle.release_lists.proofs.CaptureLaws.{few-captures}
 use Rattle.answer_columns.specs.Pieces.{putAll, entryPieces}
 use Rattle.answer_columns.specs.Columns.{capturePieces}
 use Rattle.answer_columns.proofs.PieceLaws.{start, turn}
@@ -21,8 +21,8 @@ Inv-loop out₀ at captures n next₀ i₀ out next i = (i ≤ n) × (n ≤ 512)
 abbrev μ-loop : tie.MeasureT-loop
 μ-loop out₀ at captures n next₀ i₀ out next i = n - i
 
-count-captures-requires : tie.Need-count-captures-requires Inv-loop μ-loop
-count-captures-requires c κs = search needs
+count-requires : tie.Need-count-requires Inv-loop μ-loop
+count-requires c κs = search needs
 
 loop-holds : tie.Need-loop-holds Inv-loop μ-loop
 loop-holds c = (omega arith, omega (arith, few-captures (c .before .before .args .t3) (c .before .before .good .1 .1 .0)), refl, start capturePieces _)
@@ -66,7 +66,7 @@ put-captures-spec =
     (tie.spec
     Inv-loop
     μ-loop
-    count-captures-requires
+    count-requires
     loop-holds
     mul-capture
     element-copy-out-capture

@@ -66,7 +66,7 @@ same-length-2 : tie.Need-same-length-2
 same-length-2 c = search needs
 
 returns-2 : tie.Need-returns-2
-returns-2 c = rw (c .before .before .before .before .before .before .before .before .before .before .before .before .before .key2 .given .1) (c .before .before .put-triple2 .ensures ∙ ap (putAll (triplePieces _ _ _)) (c .before .before .before .before .before .before .before .before .put-bytes2 .ensures))
+returns-2 c = rw (c .before .before .before .before .before .before .before .before .before .before .before .before .key2 .given .1) (c .before .before .put-triple2 .ensures ∙ ap (putAll (triplePieces _ _ _)) (c .before .before .before .before .before .before .before .before .put-bytes2 .ensures))
 
 same-length-3 : tie.Need-same-length-3
 same-length-3 c = search needs

@@ -7,8 +7,8 @@ use lib.ListN.{length, take}
 use lib.Seq.{take-length}
 use borrow.Author.Needs.{needs}
 use Rattle.lists.specs.Tables.{entriesOf}
-use Rattle.input_router.specs.ReleaseLists.{releases}
-use Rattle.input_router.proofs.ReleaseListLaws.{few}
+use Rattle.release_lists.specs.Releases.{releases}
+use Rattle.release_lists.proofs.ReleaseLaws.{few}
 use Rattle.answer_columns.specs.Pieces.{putAll, entryPieces}
 use Rattle.answer_columns.specs.Columns.{releasePieces}
 use Rattle.answer_columns.proofs.PieceLaws.{some-listed, none-listed, start, turn}

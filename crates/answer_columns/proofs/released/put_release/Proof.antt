@@ -22,7 +22,7 @@ same-length c = search needs
 
 returns : tie.Need-returns
 returns c =
-    let a = c .before .before .before .before .before .before .before .before .before .before .before .before .before .before .args in
+    let a = c .before .before .before .before .before .before .before .before .before .before .before .before .before .args in
     chain (keyPieces (a .release .key)) ((64 ∷ []) ∷ handlePieces (a .release .surface)) (a .out .now, a .at) (c .before .before .put-handle .ensures ∙ ap (putAll (handlePieces (a .release .surface))) (c .before .before .before .before .before .before .put-byte .ensures)) (c .before .before .before .before .before .before .before .before .before .before .put-key .ensures)
 
 pub put-release-spec : {M : Type 1} → statement M

@@ -4,14 +4,14 @@ use native.Mathlib.Omega.{arith}
 use borrow.Author.Needs.{needs}
 use borrow.Author.Tests.{eq-eqb, ne-eqb}
 use Rattle.lists.specs.Tables.{entriesOf}
-use Rattle.composition_input.specs.Captures.{captureList}
+use Rattle.release_lists.specs.Captures.{captureList}
 use Rattle.answer_columns.specs.Columns.{capturePieces, releasesColumn}
 use Rattle.answer_columns.proofs.PieceLaws.{some-listed}
 use Rattle.answer_columns.proofs.released.put_releases.Statement.{statement}
 use Rattle.answer_columns.proofs.released.put_releases.Tie as tie
 
-count-captures-requires : tie.Need-count-captures-requires
-count-captures-requires c κs = search needs
+count-requires : tie.Need-count-requires
+count-requires c κs = search needs
 
 put-listed-requires : tie.Need-put-listed-requires
 put-listed-requires c κs = search needs
@@ -21,7 +21,7 @@ same-length c = search needs
 
 returns : tie.Need-returns
 unfolding releasesColumn
-returns c = rw (eq-eqb _ 0 (sym (c .before .before .before .before .before .count-captures .ensures) ∙ c .before .before .before .before .if1 .taken)) (c .before .before .put-listed .ensures)
+returns c = rw (eq-eqb _ 0 (sym (c .before .before .before .before .before .count .ensures) ∙ c .before .before .before .before .if1 .taken)) (c .before .before .put-listed .ensures)
 
 put-captures-requires : tie.Need-put-captures-requires
 put-captures-requires c κs = search needs
@@ -33,13 +33,13 @@ returns-2 : tie.Need-returns-2
 unfolding releasesColumn
 returns-2 c =
     let held = entriesOf captureList (c .before .before .before .before .before .before .before .args .captures) in
-    rw (ne-eqb _ 0 (λ z. c .before .before .before .before .if1 .left (c .before .before .before .before .before .count-captures .ensures ∙ z)), some-listed capturePieces held (omega (arith, c .before .before .before .before .before .count-captures .ensures))) (c .before .before .put-captures .ensures)
+    rw (ne-eqb _ 0 (λ z. c .before .before .before .before .if1 .left (c .before .before .before .before .before .count .ensures ∙ z)), some-listed capturePieces held (omega (arith, c .before .before .before .before .before .count .ensures))) (c .before .before .put-captures .ensures)
 
 pub put-releases-spec : {M : Type 1} → statement M
 put-releases-spec =
     tie.close
     (tie.spec
-    count-captures-requires
+    count-requires
     put-listed-requires
     same-length
     returns

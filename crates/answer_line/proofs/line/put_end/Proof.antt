@@ -30,8 +30,8 @@ same-length c = search needs
 
 returns : tie.Need-returns
 returns c =
-    let a = c .before .before .before .before .before .before .before .before .before .before .before .before .before .before .before .before .before .before .args in
-    rw (c .before .before .before .before .before .before .before .before .before .before .before .before .before .before .before .before .if1 .taken)
+    let a = c .before .before .before .before .before .before .before .before .before .before .before .before .before .before .before .before .args in
+    rw (c .before .before .before .before .before .before .before .before .before .before .before .before .before .before .if1 .taken)
     (c .before .before .put-byte .ensures ∙ ap (put (10 ∷ []))
     ((rw (c .before .before .before .before .before .before .before .router-digest .ensures) at (c .before .before .before .before .before .before .put-digest2 .ensures)) ∙ ap (putAll (digestPieces (dumpDigest (routerNumbers (a .counter .router)))))
     (rw (c .before .before .before .before .before .before .before .before .before .before .before .before .registry-digest .ensures) at (c .before .before .before .before .before .before .before .before .before .before .before .put-digest .ensures))))

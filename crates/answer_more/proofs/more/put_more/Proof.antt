@@ -106,7 +106,7 @@ same-length-7 c = search needs
 
 returns-7 : tie.Need-returns-7
 unfolding moreOf
-returns-7 c = rw (sym (c .before .before .before .before .before .before .before .before .before .before .before .is-accepted .ensures), c .before .before .before .before .before .before .before .before .before .before .if1 .taken, c .before .before .before .before .before .before .before .before .call .given .1) (c .before .before .put-closing .ensures)
+returns-7 c = rw (sym (c .before .before .before .before .before .before .before .before .is-accepted .ensures), c .before .before .before .before .before .before .before .if1 .taken, c .before .before .before .before .before .call .given .1) (c .before .before .put-closing .ensures)
 
 same-length-8 : tie.Need-same-length-8
 same-length-8 c = search needs
@@ -120,7 +120,7 @@ same-length-9 c = search needs
 
 returns-9 : tie.Need-returns-9
 unfolding moreOf
-returns-9 c = rw (sym (c .before .before .before .before .before .before .before .before .before .before .is-accepted .ensures), c .before .before .before .before .before .before .before .before .before .if1 .taken, c .before .before .before .before .before .before .before .enum-told6 .given .1) (c .before .before .put-shown .ensures)
+returns-9 c = rw (sym (c .before .before .before .before .before .before .before .before .is-accepted .ensures), c .before .before .before .before .before .before .before .if1 .taken, c .before .before .before .before .before .enum-told6 .given .1) (c .before .before .put-shown .ensures)
 
 pub put-more-spec : {M : Type 1} → statement M
 put-more-spec =

@@ -107,7 +107,7 @@ same-length-5 : tie.Need-same-length-5
 same-length-5 c = search needs
 
 returns-5 : tie.Need-returns-5
-returns-5 c = rw (c .before .before .before .before .before .before .shown3 .given .1) (ended _ _ _ _ (c .before .before .before .before .before .before .before .before .sink-from .ensures) (c .before .before .take-captures-of .ensures))
+returns-5 c = rw (c .before .before .before .before .before .shown3 .given .1) (ended _ _ _ _ (c .before .before .before .before .before .before .before .sink-from .ensures) (c .before .before .take-captures-of .ensures))
 
 same-length-6 : tie.Need-same-length-6
 same-length-6 c = search needs
@@ -119,13 +119,13 @@ same-length-7 : tie.Need-same-length-7
 same-length-7 c = search needs
 
 returns-7 : tie.Need-returns-7
-returns-7 c = rw (c .before .before .before .before .before .before .before .shown5 .given .1) (ended _ _ _ _ (c .before .before .before .before .before .before .before .before .before .sink-from .ensures) (c .before .before .take-layers-of .ensures))
+returns-7 c = rw (c .before .before .before .before .before .shown5 .given .1) (ended _ _ _ _ (c .before .before .before .before .before .before .before .sink-from .ensures) (c .before .before .take-layers-of .ensures))
 
 same-length-8 : tie.Need-same-length-8
 same-length-8 c = search needs
 
 returns-8 : tie.Need-returns-8
-returns-8 c = rw (c .before .before .before .before .before .enum-told3 .given .1) (ended _ _ _ _ (c .before .before .before .before .before .before .before .sink-from .ensures) (c .before .before .take-traces .ensures))
+returns-8 c = rw (c .before .before .before .before .enum-told3 .given .1) (ended _ _ _ _ (c .before .before .before .before .before .before .sink-from .ensures) (c .before .before .take-traces .ensures))
 
 same-length-9 : tie.Need-same-length-9
 same-length-9 c = search needs

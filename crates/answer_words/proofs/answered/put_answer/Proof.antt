@@ -27,7 +27,7 @@ same-length c = search needs
 returns : tie.Need-returns
 unfolding answerPlaced
 returns c =
-    let a = c .before .before .before .before .before .before .before .before .before .before .before .before .before .before .before .args in
+    let a = c .before .before .before .before .before .before .before .before .before .before .before .before .before .before .args in
     c .before .before .put-more .ensures ∙ ap (morePlaced Words (moreOf (a .call) (a .answer) (a .counter)))
     (ended Words _ _ _ (c .before .before .before .before .before .before .before .sink-from .ensures) (rw (c .before .before .before .before .before .before .before .before .before .named-handle .ensures) at (c .before .before .before .before .before .before .take-answer .ensures)))
 

@@ -5,11 +5,11 @@ use native.Mathlib.Omega.{arith}
 use lib.ListN.{length}
 use borrow.Author.Needs.{needs}
 use Rattle.lists.specs.Tables.{entriesOf}
-use Rattle.composition_input.specs.Captures.{captureList}
+use Rattle.release_lists.specs.Captures.{captureList}
 use Rattle.answer_numbers.proofs.EachLaws.{Taken, none-taken, entry-taken, all-taken}
 use Rattle.answer_numbers.proofs.TakeLaws.{then, same-size}
 use Rattle.answer_numbers.specs.Groups.{captureNumbers}
-use Rattle.input_router.proofs.ReleaseListLaws.{few-captures}
+use Rattle.release_lists.proofs.CaptureLaws.{few-captures}
 use Rattle.answer_words.proofs.listed.take_captures.Statement.{statement}
 use Rattle.answer_words.proofs.listed.take_captures.Tie as tie
 
@@ -19,8 +19,8 @@ Inv-loop out₀ list n next₀ i₀ out next i = (i ≤ n) × (n ≤ 512) × Tak
 abbrev μ-loop : tie.MeasureT-loop
 μ-loop out₀ list n next₀ i₀ out next i = n - i
 
-count-captures-requires : tie.Need-count-captures-requires Inv-loop μ-loop
-count-captures-requires c κs = search needs
+count-requires : tie.Need-count-requires Inv-loop μ-loop
+count-requires c κs = search needs
 
 take-count-requires : tie.Need-take-count-requires Inv-loop μ-loop
 take-count-requires c κs = search needs
@@ -54,7 +54,7 @@ returns : tie.Need-returns Inv-loop μ-loop
 returns c =
     let a = c .before .before .before .before .before .before .before .before .args in
     let l = c .before .loop in
-    rw (sym (c .before .before .before .before .before .before .count-captures .ensures)) (then _ _ _ (c .before .before .before .before .take-count .ensures) (all-taken captureNumbers (entriesOf captureList (a .t3)) _ (l .i) (omega arith) (l .inv .2)))
+    rw (sym (c .before .before .before .before .before .before .count .ensures)) (then _ _ _ (c .before .before .before .before .take-count .ensures) (all-taken captureNumbers (entriesOf captureList (a .t3)) _ (l .i) (omega arith) (l .inv .2)))
 
 same-length : tie.Need-same-length Inv-loop μ-loop
 same-length c = same-size _ _ (returns c)
@@ -65,7 +65,7 @@ take-captures-spec =
     (tie.spec
     Inv-loop
     μ-loop
-    count-captures-requires
+    count-requires
     take-count-requires
     loop-holds
     mul-capture

@@ -5,11 +5,11 @@ use native.Mathlib.Omega.{arith}
 use lib.ListN.{length}
 use borrow.Author.Needs.{needs}
 use Rattle.lists.specs.Tables.{entriesOf}
-use Rattle.input_router.specs.ReleaseLists.{releases}
+use Rattle.release_lists.specs.Releases.{releases}
 use Rattle.answer_numbers.proofs.EachLaws.{Taken, none-taken, entry-taken, all-taken}
 use Rattle.answer_numbers.proofs.TakeLaws.{then, same-size}
 use Rattle.answer_words.specs.Answers.{releaseNumbers}
-use Rattle.input_router.proofs.ReleaseListLaws.{few}
+use Rattle.release_lists.proofs.ReleaseLaws.{few}
 use Rattle.answer_words.proofs.listed.take_releases.Statement.{statement}
 use Rattle.answer_words.proofs.listed.take_releases.Tie as tie
 

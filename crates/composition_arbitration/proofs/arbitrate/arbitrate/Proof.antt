@@ -22,8 +22,8 @@ new-requires c κs = search needs
 
 returns : tie.Need-returns
 returns c =
-    let a = c .before .before .before .before .before .before .before .args in
-    let is : c .before .before .before .before .before .decide .result ≡ decided (damageRefusal (a .registry)) (a .registry) (a .view) (a .event) (a .hits) = c .before .before .before .before .before .decide .ensures ∙ rw (c .before .before .before .before .before .before .damage .ensures) in
+    let a = c .before .before .before .before .before .before .args in
+    let is : c .before .before .before .before .decide .result ≡ decided (damageRefusal (a .registry)) (a .registry) (a .view) (a .event) (a .hits) = c .before .before .before .before .decide .ensures ∙ rw (c .before .before .before .before .before .damage .ensures) in
     rw (c .new .ensures) (sym (refused (a .registry) (a .view) (a .event) (a .hits) _ (sym (ap (λ (d : Decision). d .outcome) is) ∙ c .before .before .outcome .given .1)))
 
 enum-told : tie.Need-enum-told
@@ -40,9 +40,9 @@ with-traces-at-requires c κs = search needs
 
 returns-2 : tie.Need-returns-2
 returns-2 c =
-    let a = c .before .before .before .before .before .before .before .before .before .before .args in
-    let is : c .before .before .before .before .before .before .before .before .decide .result ≡ decided (damageRefusal (a .registry)) (a .registry) (a .view) (a .event) (a .hits) = c .before .before .before .before .before .before .before .before .decide .ensures ∙ rw (c .before .before .before .before .before .before .before .before .before .damage .ensures) in
-    let passed = sym (ap (λ (d : Decision). d .outcome) is) ∙ c .before .before .before .before .before .enum-told .given .1 in
+    let a = c .before .before .before .before .before .before .before .args in
+    let is : c .before .before .before .before .before .decide .result ≡ decided (damageRefusal (a .registry)) (a .registry) (a .view) (a .event) (a .hits) = c .before .before .before .before .before .decide .ensures ∙ rw (c .before .before .before .before .before .before .damage .ensures) in
+    let passed = sym (ap (λ (d : Decision). d .outcome) is) ∙ c .before .before .before .enum-told .given .1 in
     rw (c .with-traces-at .ensures, c .before .result-of .ensures, c .before .before .push-trace .ensures, is, passed) (sym (accepted (a .registry) (a .view) (a .event) (a .hits) passed))
 
 pub arbitrate-spec : {M : Type 1} → statement M

@@ -1,6 +1,6 @@
 -- `count` meets its contract: the stored count, cut at the number of places.
 use Rattle.lists.proofs.TableLaws.{count-below, count-above}
-use Rattle.composition_state.specs.Traces.{hits}
+use Rattle.records.specs.Traces.{hits}
 use Rattle.composition_arbitration.proofs.HitsLaws.{long}
 use Rattle.composition_arbitration.proofs.targets.count.Statement.{statement}
 use Rattle.composition_arbitration.proofs.targets.count.Tie as tie

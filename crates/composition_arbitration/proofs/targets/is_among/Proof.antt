@@ -5,7 +5,7 @@ use native.Mathlib.Omega.{arith}
 use borrow.Author.Needs.{needs}
 use lib.ListN.{length}
 use Rattle.lists.specs.Tables.{entriesOf}
-use Rattle.composition_state.specs.Traces.{hits as stateHits}
+use Rattle.records.specs.Traces.{hits as stateHits}
 use Rattle.composition_arbitration.proofs.HitsLaws.{few, Sought, among-here, among-next, among-end}
 use Rattle.composition_arbitration.proofs.targets.is_among.Statement.{statement}
 use Rattle.composition_arbitration.proofs.targets.is_among.Tie as tie

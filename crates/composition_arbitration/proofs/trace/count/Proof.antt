@@ -1,7 +1,7 @@
 -- `count` meets its contract: the stored count, cut at the number of places.
 use Rattle.lists.proofs.TableLaws.{count-below, count-above}
-use Rattle.composition_state.specs.Traces.{traces}
-use Rattle.composition_state.proofs.TraceLaws.{long}
+use Rattle.records.specs.Traces.{traces}
+use Rattle.records.proofs.TraceLaws.{long}
 use Rattle.composition_arbitration.proofs.trace.count.Statement.{statement}
 use Rattle.composition_arbitration.proofs.trace.count.Tie as tie
 

@@ -6,9 +6,9 @@ use mathlib.Core.List.{[]}
 use lib.ListN.{length}
 use Rattle.lists.specs.Tables.{entriesOf, packed, pushed}
 use Rattle.lists.proofs.TableLaws.{entry, len-packed}
-use Rattle.composition_state.specs.declared.trace.Traces.{Traces}
-use Rattle.composition_state.specs.Traces.{traces as stateTraces}
-use Rattle.composition_state.proofs.TraceLaws.{few}
+use Rattle.records.specs.declared.trace.Traces.{Traces}
+use Rattle.records.specs.Traces.{traces as stateTraces}
+use Rattle.records.proofs.TraceLaws.{few}
 use Rattle.composition_arbitration.specs.Trace.{keptBefore}
 use Rattle.composition_arbitration.proofs.TraceLaws.{few-kept, part, part-none, turn, done}
 use borrow.Author.Needs.{needs}

@@ -5,8 +5,8 @@ use native.Mathlib.Omega.{arith}
 use borrow.Author.Needs.{needs}
 use Rattle.lists.specs.Tables.{pushed}
 use Rattle.lists.proofs.TableLaws.{len-packed, push-packed}
-use Rattle.composition_state.specs.Traces.{deliveries as stateDeliveries}
-use Rattle.composition_state.specs.declared.trace.Deliveries.{Deliveries}
+use Rattle.records.specs.Traces.{deliveries as stateDeliveries}
+use Rattle.records.specs.declared.trace.Deliveries.{Deliveries}
 use Rattle.composition_arbitration.specs.Layers.{deliveryFrom}
 use Rattle.composition_arbitration.proofs.walk.deliver.Statement.{statement}
 use Rattle.composition_arbitration.proofs.walk.deliver.Tie as tie

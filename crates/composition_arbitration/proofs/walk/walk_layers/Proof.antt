@@ -6,12 +6,12 @@ use lib.ListN.{length}
 use Rattle.lists.specs.Tables.{entriesOf}
 use Rattle.lists.proofs.TableLaws.{entry}
 use Rattle.handles.specs.Handles.{handleOf}
-use Rattle.handles.specs.declared.handle.GenerationalHandle.{GenerationalHandle}
-use Rattle.handles.specs.declared.handle.OptionalHandle.the-variants.{Some}
-use Rattle.composition_state.specs.declared.surface.SurfaceTable.{SurfaceTable}
-use Rattle.composition_state.specs.Layers.{layers as stateLayers, recordsOf}
-use Rattle.composition_state.specs.Traces.{hits as stateHits}
-use Rattle.composition_state.proofs.LayerLaws.{few}
+use Rattle.handles.specs.declared.GenerationalHandle.{GenerationalHandle}
+use Rattle.handles.specs.declared.OptionalHandle.the-variants.{Some}
+use Rattle.records.specs.declared.surface.SurfaceTable.{SurfaceTable}
+use Rattle.records.specs.Layers.{layers as stateLayers, recordsOf}
+use Rattle.records.specs.Traces.{hits as stateHits}
+use Rattle.records.proofs.LayerLaws.{few}
 use Rattle.composition_arbitration.specs.Layers.{verdictAt, consumes}
 use Rattle.composition_arbitration.proofs.WalkLaws.{Walking, start, turn-room, turn, stop, done, verdict-here}
 use borrow.Author.Needs.{needs}

@@ -24,7 +24,7 @@ then-requires-2 c κs = search needs
 returns : tie.Need-returns
 returns c =
     let c5 = c .before .before .before .before .before in
-    rw (c .then2 .ensures, c .before .then .ensures, c .before .before .damage .ensures, c .before .before .before .refusal2 .ensures, c .before .before .before .before .refusal .ensures, c5 .before .descriptor .ensures)
+    rw (c .then2 .ensures, c .before .then .ensures, c .before .before .damage .ensures, c .before .before .before .refusal2 .ensures, c .before .before .before .before .refusal .ensures, c5 .descriptor .ensures)
 
 pub close-refusal-spec : {M : Type 1} → statement M
 close-refusal-spec =

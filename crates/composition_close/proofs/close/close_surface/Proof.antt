@@ -1,13 +1,13 @@
 -- `close_surface` meets its contract, by the answer of its checks: refused, or the settled change with its report.
 use mathlib.Core.Path.{_≡_, sym, _∙_}
-use Rattle.composition_state.specs.declared.error.Outcome.the-variants.{Accepted}
+use Rattle.records.specs.declared.error.Outcome.the-variants.{Accepted}
 use Rattle.composition_close.specs.Close.{closeRefusal, closeSettled, closeSurface}
 use borrow.Author.Needs.{needs}
 use Rattle.composition_close.proofs.close.close_surface.Statement.{statement}
 use Rattle.composition_close.proofs.close.close_surface.Tie as tie
 
 -- after the checks: the change is settled
-changed-is : (c : tie.After-settle) → let a = c .before .before .before .before .before .before .before .before .before .before .before .args in c .settle .result ≡ closeSettled (a .registry) (a .surface)
+changed-is : (c : tie.After-settle) → let a = c .before .before .before .before .before .before .before .before .args in c .settle .result ≡ closeSettled (a .registry) (a .surface)
 unfolding closeSettled
 changed-is c = rw (c .settle .ensures, c .before .free-slot .ensures, c .before .before .detach .ensures, c .before .before .before .refuse-exhausted .ensures, c .before .before .before .before .release .ensures)
 
@@ -49,9 +49,9 @@ unfolding closeSurface
 returns c =
     let c5 = c .before .before .before .before .before in
     let c10 = c5 .before .before .before .before .before in
-    let a = c10 .before .before .before .before .args in
-    let checked : closeRefusal (a .registry) (a .surface) ≡ Accepted = sym (c10 .before .before .before .close-refusal .ensures) ∙ c10 .before .enum-told .given .1 in
-    rw (checked, c .closed-with .ensures, c .before .close-report .ensures, changed-is (c .before .before .before))
+    let a = c10 .args in
+    let checked : closeRefusal (a .registry) (a .surface) ≡ Accepted = sym (c5 .before .before .before .before .close-refusal .ensures) ∙ c5 .before .before .enum-told .given .1 in
+    rw (checked, c .closed-with .ensures, c .before .close-report .ensures, changed-is (c .before .before))
 
 returns-2 : tie.Need-returns-2
 unfolding closeSurface

@@ -21,7 +21,7 @@ with-views-requires c κs = search needs
 
 returns : tie.Need-returns
 unfolding detached
-returns c = rw (c .with-views .ensures, c .before .with-record .ensures, c .before .before .detached-view .ensures, c .before .before .before .«record» .ensures, c .before .before .before .before .before .descriptor .ensures)
+returns c = rw (c .with-views .ensures, c .before .with-record .ensures, c .before .before .detached-view .ensures, c .before .before .before .«record» .ensures, c .before .before .before .before .descriptor .ensures)
 
 pub detach-spec : {M : Type 1} → statement M
 detach-spec =

@@ -21,7 +21,7 @@ with-shortcuts-requires c κs = search needs
 
 returns : tie.Need-returns
 unfolding freed
-returns c = rw (c .with-shortcuts .ensures, c .before .without .ensures, c .before .before .with-surfaces .ensures, c .before .before .before .with-arena .ensures, c .before .before .before .before .before .release .ensures)
+returns c = rw (c .with-shortcuts .ensures, c .before .without .ensures, c .before .before .with-surfaces .ensures, c .before .before .before .with-arena .ensures, c .before .before .before .before .release .ensures)
 
 pub free-slot-spec : {M : Type 1} → statement M
 free-slot-spec =

@@ -36,7 +36,7 @@ returns c =
       c .before .before .before .had-capture .ensures,
       c .before .before .before .before .holds .ensures,
       c5 .«record» .ensures,
-      c5 .before .before .descriptor .ensures,
+      c5 .before .descriptor .ensures,
     )
 
 pub close-report-spec : {M : Type 1} → statement M

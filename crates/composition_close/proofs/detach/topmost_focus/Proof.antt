@@ -4,8 +4,8 @@ use mathlib.Core.Path.{_≡_, sym, ap, _∙_}
 use native.Mathlib.Omega.{arith}
 use lib.ListN.{length}
 use Rattle.lists.specs.Tables.{entriesOf}
-use Rattle.composition_state.specs.Layers.{layers}
-use Rattle.composition_state.proofs.LayerLaws.{few}
+use Rattle.records.specs.Layers.{layers}
+use Rattle.records.proofs.LayerLaws.{few}
 use Rattle.composition_close.specs.Detach.{takesFocus, optional, topmost}
 use Rattle.composition_close.proofs.TopLaws.{SearchedDown, down-start, down-here, down-next, down-end}
 use borrow.Author.Needs.{needs}

@@ -4,8 +4,8 @@ use mathlib.Core.Path.{_≡_}
 use native.Mathlib.Omega.{arith}
 use lib.ListN.{length}
 use Rattle.lists.specs.Tables.{entriesOf}
-use Rattle.composition_state.specs.Layers.{layers}
-use Rattle.composition_state.proofs.LayerLaws.{few}
+use Rattle.records.specs.Layers.{layers}
+use Rattle.records.proofs.LayerLaws.{few}
 use Rattle.composition_close.proofs.ShutdownLaws.{ClosedDown, closed-start, closed-next, closed-end, closed-count}
 use borrow.Author.Needs.{needs}
 use Rattle.composition_close.proofs.shutdown.close_layers.Statement.{statement}

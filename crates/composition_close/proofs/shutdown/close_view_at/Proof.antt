@@ -10,8 +10,8 @@ use Rattle.composition_close.proofs.shutdown.close_view_at.Tie as tie
 slot-at-requires : tie.Need-slot-at-requires
 slot-at-requires c κs = search needs
 
-cast-t16 : tie.Need-cast-t16
-cast-t16 c = search needs
+cast-t13 : tie.Need-cast-t13
+cast-t13 c = search needs
 
 record-requires : tie.Need-record-requires
 record-requires c κs = search needs
@@ -27,13 +27,13 @@ unfolding wholeViewClosed
 returns c =
     let c5 = c .before .before .before .before .before in (
       rw (
-        sym (ap (λ (s : Slot). s .filled) (c5 .before .before .slot-at .ensures)) ∙ c5 .before .if1 .taken,
+        sym (ap (λ (s : Slot). s .filled) (c5 .before .slot-at .ensures)) ∙ c5 .if1 .taken,
         c .release-view .ensures,
-        c .before .before .before .close-layers .ensures .0,
-        c5 .«record» .ensures,
-        c5 .before .before .slot-at .ensures,
+        c .before .before .close-layers .ensures .0,
+        c .before .before .before .before .«record» .ensures,
+        c5 .before .slot-at .ensures,
       ),
-      c .before .before .before .close-layers .ensures .1,
+      c .before .before .close-layers .ensures .1,
     )
 
 returns-2 : tie.Need-returns-2
@@ -44,7 +44,7 @@ close-view-at-spec =
     tie.close
     (tie.spec
     slot-at-requires
-    cast-t16
+    cast-t13
     record-requires
     close-layers-requires
     release-view-requires

@@ -6,7 +6,7 @@ use native.Mathlib.Omega.{arith}
 use Rattle.lists.specs.Below.{iterBelow}
 use Rattle.lists.proofs.BelowLaws.{iter-none, iter-more}
 use Rattle.lists.proofs.TableLaws.{len-packed}
-use Rattle.composition_state.proofs.ViewLaws.{few-slots}
+use Rattle.records.proofs.ViewLaws.{few-slots}
 use Rattle.composition_close.specs.declared.answer.CloseReports.{CloseReports}
 use Rattle.composition_close.specs.Reports.{closeReports}
 use Rattle.composition_close.specs.Shutdown.{viewClosedAt, viewsClosed}

@@ -9,8 +9,8 @@ use Rattle.composition_close.proofs.shutdown.close_window_at.Tie as tie
 slot-at-requires : tie.Need-slot-at-requires
 slot-at-requires c κs = search needs
 
-cast-t11 : tie.Need-cast-t11
-cast-t11 c = search needs
+cast-t10 : tie.Need-cast-t10
+cast-t10 c = search needs
 
 release-requires : tie.Need-release-requires
 release-requires c κs = search needs
@@ -25,7 +25,7 @@ returns : tie.Need-returns
 unfolding windowClosed
 returns c =
     let c5 = c .before .before .before .before .before in
-    rw (sym (ap (λ (s : Slot). s .filled) (c5 .before .slot-at .ensures)) ∙ c5 .if1 .taken, c .before .advance .ensures, c .before .before .with-windows .ensures, c .before .before .before .before .release .ensures, c5 .before .slot-at .ensures)
+    rw (sym (ap (λ (s : Slot). s .filled) (c5 .slot-at .ensures)) ∙ c .before .before .before .before .if1 .taken, c .before .advance .ensures, c .before .before .with-windows .ensures, c .before .before .before .release .ensures, c5 .slot-at .ensures)
 
 returns-2 : tie.Need-returns-2
 returns-2 c = rw (sym (ap (λ (s : Slot). s .filled) (c .before .slot-at .ensures)) ∙ c .if1 .left)
@@ -35,7 +35,7 @@ close-window-at-spec =
     tie.close
     (tie.spec
     slot-at-requires
-    cast-t11
+    cast-t10
     release-requires
     with-windows-requires
     advance-requires

@@ -18,7 +18,7 @@ advance-requires c κs = search needs
 
 returns : tie.Need-returns
 unfolding viewClosed
-returns c = rw (c .before .advance .ensures, c .before .before .with-views .ensures, c .before .before .before .with-arena .ensures, c .before .before .before .before .before .release .ensures)
+returns c = rw (c .before .advance .ensures, c .before .before .with-views .ensures, c .before .before .before .with-arena .ensures, c .before .before .before .before .release .ensures)
 
 pub release-view-spec : {M : Type 1} → statement M
 release-view-spec =

@@ -18,7 +18,7 @@ close-windows-requires c κs = search needs
 
 returns : tie.Need-returns
 unfolding shutDown
-returns c = rw (c .close-windows .ensures, c .before .before .before .close-views .ensures, c .before .before .before .before .live-handles2 .ensures, c .before .before .before .before .before .live-handles .ensures)
+returns c = rw (c .close-windows .ensures, c .before .before .close-views .ensures, c .before .before .before .live-handles2 .ensures, c .before .before .before .before .live-handles .ensures)
 
 pub shut-down-spec : {M : Type 1} → statement M
 shut-down-spec =

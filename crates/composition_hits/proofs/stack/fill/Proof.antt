@@ -6,9 +6,9 @@ use lib.ListN.{length}
 use Rattle.lists.specs.Tables.{entriesOf}
 use Rattle.lists.proofs.TableLaws.{entry}
 use Rattle.handles.specs.Handles.{handleOf}
-use Rattle.composition_state.specs.declared.surface.SurfaceTable.{SurfaceTable}
-use Rattle.composition_state.specs.Layers.{layers as stateLayers, recordsOf}
-use Rattle.composition_state.proofs.LayerLaws.{few}
+use Rattle.records.specs.declared.surface.SurfaceTable.{SurfaceTable}
+use Rattle.records.specs.Layers.{layers as stateLayers, recordsOf}
+use Rattle.records.proofs.LayerLaws.{few}
 use Rattle.composition_hits.specs.HitTest.{isLayerHit, hitsAmong}
 use Rattle.composition_hits.proofs.HitLaws.{Filling, start, same-long, room-for-two, turn, end-place, end-buffer, hit-here}
 use borrow.Author.Needs.{needs}

@@ -11,7 +11,7 @@ is-hit-requires c κs = search needs
 
 returns : tie.Need-returns
 returns c =
-    let p = c .before .before .before .before .before .args .point in
+    let p = c .before .before .before .args .point in
     let fx : SFits w32 (p .«x_milli») = record { sfits = c .before .before .struct-told .given .0 .1 } in
     let fy : SFits w32 (p .«y_milli») = record { sfits = c .before .struct-told2 .given .1 .0 .1 } in
     rw (c .is-hit .ensures, toZ-ofZ {w = w32} {z = p .«x_milli»} fx, toZ-ofZ {w = w32} {z = p .«y_milli»} fy)

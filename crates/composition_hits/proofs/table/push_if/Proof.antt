@@ -4,8 +4,8 @@ use mathlib.Core.List.{append-nil}
 use native.Mathlib.Omega.{arith}
 use Rattle.lists.specs.Tables.{pushed}
 use Rattle.lists.proofs.TableLaws.{len-packed, push-packed}
-use Rattle.composition_state.specs.declared.trace.Hits.{Hits}
-use Rattle.composition_state.specs.Traces.{hits as stateHits}
+use Rattle.records.specs.declared.trace.Hits.{Hits}
+use Rattle.records.specs.Traces.{hits as stateHits}
 use Rattle.composition_hits.proofs.table.push_if.Statement.{statement}
 use Rattle.composition_hits.proofs.table.push_if.Tie as tie
 

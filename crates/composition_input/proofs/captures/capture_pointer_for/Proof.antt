@@ -2,8 +2,8 @@
 use mathlib.Core.Path.{_≡_}
 use mathlib.Core.Bool.{not}
 use borrow.Author.Needs.{needs}
-use Rattle.composition_state.specs.declared.error.CompositionError.the-variants.{PortLimit}
-use Rattle.composition_state.specs.Errors.{refusalIf}
+use Rattle.records.specs.declared.error.CompositionError.the-variants.{PortLimit}
+use Rattle.records.specs.Errors.{refusalIf}
 use Rattle.composition_input.proofs.CaptureSettleLaws.{room-after, captured-settled}
 use Rattle.composition_input.proofs.captures.capture_pointer_for.Statement.{statement}
 use Rattle.composition_input.proofs.captures.capture_pointer_for.Tie as tie
@@ -72,12 +72,12 @@ settle-requires : tie.Need-settle-requires
 settle-requires c κs = search needs
 
 -- the refusal, by its checks
-refusal-is : (c : tie.After-then5) → let i = c .before .before .before .before .before .before .before .before .before .before .before .before .before .before .before in let a = i .before .before .before .before .before .before .before .args in c .then5 .result ≡ room-after (a .registry) (a .pointer) (a .surface) (a .expected-revision) (refusalIf (not (i .insert .result .inserted)) PortLimit)
+refusal-is : (c : tie.After-then5) → let i = c .before .before .before .before .before .before .before .before .before .before .before .before .before .before .before in let a = i .before .before .before .before .args in c .then5 .result ≡ room-after (a .registry) (a .pointer) (a .surface) (a .expected-revision) (refusalIf (not (i .insert .result .inserted)) PortLimit)
 refusal-is c =
     let c5 = c .before .before .before .before .before in
     let c10 = c5 .before .before .before .before .before in
     let c15 = c10 .before .before .before .before .before in
-    rw (c .then5 .ensures, c .before .then4 .ensures, c .before .before .then3 .ensures, c .before .before .before .refusal2 .ensures, c .before .before .before .before .entry-refusal .ensures, c5 .then2 .ensures, c5 .before .then .ensures, c5 .before .before .refusal .ensures, c5 .before .before .before .refuse-if3 .ensures, c10 .refuse-if2 .ensures, c10 .before .is-interactive .ensures, c10 .before .before .refuse-if .ensures, c10 .before .before .before .is-valid .ensures, c15 .before .before .before .before .descriptor .ensures)
+    rw (c .then5 .ensures, c .before .then4 .ensures, c .before .before .then3 .ensures, c .before .before .before .refusal2 .ensures, c .before .before .before .before .entry-refusal .ensures, c5 .then2 .ensures, c5 .before .then .ensures, c5 .before .before .refusal .ensures, c5 .before .before .before .refuse-if3 .ensures, c10 .refuse-if2 .ensures, c10 .before .is-interactive .ensures, c10 .before .before .refuse-if .ensures, c10 .before .before .before .is-valid .ensures, c15 .before .before .before .descriptor .ensures)
 
 returns : tie.Need-returns
 returns c =
@@ -85,8 +85,7 @@ returns c =
     let c10 = c5 .before .before .before .before .before in
     let c15 = c10 .before .before .before .before .before in
     let c20 = c15 .before .before .before .before .before in
-    let c25 = c20 .before .before .before .before .before in
-    let a = c25 .before .before .args in rw (c .settle .ensures, c .before .with-views .ensures, c .before .before .with-record .ensures, c .before .before .before .with-captures .ensures, c .before .before .before .before .is-primary .ensures, refusal-is c5, c20 .insert .ensures, c20 .before .before .«record» .ensures, c20 .before .before .before .before .descriptor .ensures) (captured-settled (a .registry) (a .pointer) (a .surface) (a .expected-revision))
+    let a = c20 .before .before .before .before .args in rw (c .settle .ensures, c .before .with-views .ensures, c .before .before .with-record .ensures, c .before .before .before .with-captures .ensures, c .before .before .before .before .is-primary .ensures, refusal-is c5, c20 .insert .ensures, c20 .before .before .«record» .ensures, c20 .before .before .before .descriptor .ensures) (captured-settled (a .registry) (a .pointer) (a .surface) (a .expected-revision))
 
 pub capture-pointer-for-spec : {M : Type 1} → statement M
 capture-pointer-for-spec =

@@ -8,7 +8,8 @@ use Rattle.lists.specs.Tables.{packed}
 use Rattle.lists.proofs.BelowLaws.{iter-none}
 use Rattle.lists.proofs.TableLaws.{entries-packed}
 use Rattle.maps.specs.Captures.{captures}
-use Rattle.composition_input.specs.Captures.{captureList, takenAt, deviceCaptures}
+use Rattle.release_lists.specs.Captures.{captureList}
+use Rattle.composition_input.specs.Captures.{takenAt, deviceCaptures}
 use Rattle.composition_input.proofs.CaptureListLaws.{gathered, gathered-fits, gathered-turn, entries-are, packed-self, slots-few}
 use Rattle.composition_input.proofs.captures.device_captures.Statement.{statement}
 use Rattle.composition_input.proofs.captures.device_captures.Tie as tie

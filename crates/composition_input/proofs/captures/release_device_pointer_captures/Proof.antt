@@ -6,14 +6,15 @@ use borrow.Author.Needs.{needs}
 use lib.ListN.{length}
 use Rattle.lists.proofs.TableLaws.{len-packed}
 use Rattle.maps.specs.declared.captures.Capture.{Capture}
-use Rattle.composition_input.specs.declared.answer.CaptureList.{CaptureList}
-use Rattle.composition_input.specs.Captures.{captureList, deviceCaptures, releaseDevicePointerCaptures}
+use Rattle.release_lists.specs.declared.captures.CaptureList.{CaptureList}
+use Rattle.release_lists.specs.Captures.{captureList}
+use Rattle.composition_input.specs.Captures.{deviceCaptures, releaseDevicePointerCaptures}
 use Rattle.composition_input.proofs.captures.release_device_pointer_captures.Statement.{statement}
 use Rattle.composition_input.proofs.captures.release_device_pointer_captures.Tie as tie
 
 -- the captures of the device, and how many there are
 abbrev taken : tie.After-device-captures → List Capture
-taken c = let a = c .before .before .args in deviceCaptures (a .registry .views) (a .device) (a .device-generation)
+taken c = let a = c .before .args in deviceCaptures (a .registry .views) (a .device) (a .device-generation)
 
 counted : (c : tie.After-device-captures) → c .device-captures .result .len ≡ length (taken c)
 counted c = ap (λ (t : CaptureList). t .len) (c .device-captures .ensures) ∙ len-packed captureList (taken c)

@@ -42,7 +42,7 @@ unfolding releasePointer
 returns c =
     let c5 = c .before .before .before .before .before in
     let c10 = c5 .before .before .before .before .before in
-    rw (c .settle .ensures, c .before .with-views .ensures, c .before .before .with-record .ensures, c .before .before .before .with-captures .ensures, c .before .before .before .before .remove .ensures, c5 .then .ensures, c5 .before .owner-refusal .ensures, c5 .before .before .refuse-if .ensures, c5 .before .before .before .holds .ensures, c10 .«record» .ensures, c10 .before .before .descriptor .ensures)
+    rw (c .settle .ensures, c .before .with-views .ensures, c .before .before .with-record .ensures, c .before .before .before .with-captures .ensures, c .before .before .before .before .remove .ensures, c5 .then .ensures, c5 .before .owner-refusal .ensures, c5 .before .before .refuse-if .ensures, c5 .before .before .before .holds .ensures, c10 .«record» .ensures, c10 .before .descriptor .ensures)
 
 pub release-pointer-spec : {M : Type 1} → statement M
 release-pointer-spec =

@@ -45,17 +45,17 @@ settle-requires : tie.Need-settle-requires
 settle-requires c κs = search needs
 
 -- the refusal, by its checks
-refusal-is : (c : tie.After-then) → let a = c .before .before .before .before .before .before .before .before .before .before .before .args in c .then .result ≡ releaseForRefusal (a .registry) (a .pointer) (a .surface) (a .expected-revision)
+refusal-is : (c : tie.After-then) → let a = c .before .before .before .before .before .before .before .before .args in c .then .result ≡ releaseForRefusal (a .registry) (a .pointer) (a .surface) (a .expected-revision)
 refusal-is c =
     let c5 = c .before .before .before .before .before in
-    rw (c .then .ensures, c .before .owner-refusal .ensures, c .before .before .refuse-if .ensures, c .before .before .before .holds .ensures, c .before .before .before .before .get .ensures, c5 .before .«record» .ensures, c5 .before .before .before .descriptor .ensures)
+    rw (c .then .ensures, c .before .owner-refusal .ensures, c .before .before .refuse-if .ensures, c .before .before .before .holds .ensures, c .before .before .before .before .get .ensures, c5 .before .«record» .ensures, c5 .before .before .descriptor .ensures)
 
 returns : tie.Need-returns
 unfolding releasePointerFor
 returns c =
     let c5 = c .before .before .before .before .before in
     let c10 = c5 .before .before .before .before .before in
-    rw (c .settle .ensures, c .before .with-views .ensures, c .before .before .with-record .ensures, c .before .before .before .with-captures .ensures, c .before .before .before .before .is-primary .ensures, c5 .remove .ensures, refusal-is (c5 .before), c10 .before .before .«record» .ensures, c10 .before .before .before .before .descriptor .ensures)
+    rw (c .settle .ensures, c .before .with-views .ensures, c .before .before .with-record .ensures, c .before .before .before .with-captures .ensures, c .before .before .before .before .is-primary .ensures, c5 .remove .ensures, refusal-is (c5 .before), c10 .before .before .«record» .ensures, c10 .before .before .before .descriptor .ensures)
 
 pub release-pointer-for-spec : {M : Type 1} → statement M
 release-pointer-for-spec =

@@ -54,11 +54,11 @@ settle-requires : tie.Need-settle-requires
 settle-requires c κs = search needs
 
 -- the refusal, by its checks
-refusal-is : (c : tie.After-then4) → let a = c .before .before .before .before .before .before .before .before .before .before .before .before .before .before .before .before .args in c .then4 .result ≡ beginImeRefusal (a .registry) (a .surface) (a .expected-revision)
+refusal-is : (c : tie.After-then4) → let a = c .before .before .before .before .before .before .before .before .before .before .before .before .before .before .args in c .then4 .result ≡ beginImeRefusal (a .registry) (a .surface) (a .expected-revision)
 refusal-is c =
     let c5 = c .before .before .before .before .before in
     let c10 = c5 .before .before .before .before .before in
-    rw (c .then4 .ensures, c .before .then3 .ensures, c .before .before .then2 .ensures, c .before .before .before .then .ensures, c .before .before .before .before .refusal2 .ensures, c5 .refusal .ensures, c5 .before .entry-refusal .ensures, c5 .before .before .refuse-if2 .ensures, c5 .before .before .before .holds .ensures, c5 .before .before .before .before .refuse-if .ensures, c10 .before .«record» .ensures, c10 .before .before .before .descriptor .ensures)
+    rw (c .then4 .ensures, c .before .then3 .ensures, c .before .before .then2 .ensures, c .before .before .before .then .ensures, c .before .before .before .before .refusal2 .ensures, c5 .refusal .ensures, c5 .before .entry-refusal .ensures, c5 .before .before .refuse-if2 .ensures, c5 .before .before .before .holds .ensures, c5 .before .before .before .before .refuse-if .ensures, c10 .before .«record» .ensures, c10 .before .before .descriptor .ensures)
 
 returns : tie.Need-returns
 unfolding beginIme
@@ -66,7 +66,7 @@ returns c =
     let c5 = c .before .before .before .before .before in
     let c10 = c5 .before .before .before .before .before in
     let c15 = c10 .before .before .before .before .before in
-    rw (c .settle .ensures, c .before .with-views .ensures, c .before .before .with-record .ensures, c .before .before .before .with-ime .ensures, refusal-is (c .before .before .before .before), c15 .«record» .ensures, c15 .before .before .descriptor .ensures)
+    rw (c .settle .ensures, c .before .with-views .ensures, c .before .before .with-record .ensures, c .before .before .before .with-ime .ensures, refusal-is (c .before .before .before .before), c15 .«record» .ensures, c15 .before .descriptor .ensures)
 
 pub begin-ime-spec : {M : Type 1} → statement M
 begin-ime-spec =

@@ -51,7 +51,7 @@ unfolding endIme
 returns c =
     let c5 = c .before .before .before .before .before in
     let c10 = c5 .before .before .before .before .before in
-    rw (c .settle .ensures, c .before .with-views .ensures, c .before .before .with-record .ensures, c .before .before .before .with-ime .ensures, c .before .before .before .before .then3 .ensures, c5 .then2 .ensures, c5 .before .then .ensures, c5 .before .before .refusal2 .ensures, c5 .before .before .before .refusal .ensures, c5 .before .before .before .before .entry-refusal .ensures, c10 .refuse-if .ensures, c10 .before .holds .ensures, c10 .before .before .«record» .ensures, c10 .before .before .before .before .descriptor .ensures)
+    rw (c .settle .ensures, c .before .with-views .ensures, c .before .before .with-record .ensures, c .before .before .before .with-ime .ensures, c .before .before .before .before .then3 .ensures, c5 .then2 .ensures, c5 .before .then .ensures, c5 .before .before .refusal2 .ensures, c5 .before .before .before .refusal .ensures, c5 .before .before .before .before .entry-refusal .ensures, c10 .refuse-if .ensures, c10 .before .holds .ensures, c10 .before .before .«record» .ensures, c10 .before .before .before .descriptor .ensures)
 
 pub end-ime-spec : {M : Type 1} → statement M
 end-ime-spec =

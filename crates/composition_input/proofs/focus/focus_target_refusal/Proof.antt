@@ -40,7 +40,7 @@ returns-2 : tie.Need-returns-2
 returns-2 c =
     let c5 = c .before .before .before .before .before in
     let c10 = c5 .before .before .before .before .before in
-    rw (c10 .before .target .given .1, c .then2 .ensures, c .before .then .ensures, c .before .before .refusal .ensures, c .before .before .before .refuse-if2 .ensures, c .before .before .before .before .is-interactive .ensures, c5 .refuse-if .ensures, c5 .before .same-handle .ensures, c5 .before .before .before .descriptor .ensures)
+    rw (c5 .before .before .before .before .target .given .1, c .then2 .ensures, c .before .then .ensures, c .before .before .refusal .ensures, c .before .before .before .refuse-if2 .ensures, c .before .before .before .before .is-interactive .ensures, c5 .refuse-if .ensures, c5 .before .same-handle .ensures, c5 .before .before .descriptor .ensures)
 
 pub focus-target-refusal-spec : {M : Type 1} → statement M
 focus-target-refusal-spec =

@@ -22,7 +22,7 @@ then-requires-2 : tie.Need-then-requires-2
 then-requires-2 c κs = search needs
 
 returns : tie.Need-returns
-returns c = rw (c .then2 .ensures, c .before .then .ensures, c .before .before .refusal2 .ensures, c .before .before .before .refusal .ensures, c .before .before .before .before .entry-refusal .ensures, c .before .before .before .before .before .before .descriptor .ensures)
+returns c = rw (c .then2 .ensures, c .before .then .ensures, c .before .before .refusal2 .ensures, c .before .before .before .refusal .ensures, c .before .before .before .before .entry-refusal .ensures, c .before .before .before .before .before .descriptor .ensures)
 
 pub owner-refusal-spec : {M : Type 1} → statement M
 owner-refusal-spec =

@@ -16,7 +16,7 @@ with-record-requires : tie.Need-with-record-requires
 with-record-requires c κs = search needs
 
 returns : tie.Need-returns
-returns c = rw (c .with-record .ensures, c .before .with-surfaces .ensures, c .before .before .insert .ensures, c .before .before .before .before .«record» .ensures)
+returns c = rw (c .with-record .ensures, c .before .with-surfaces .ensures, c .before .before .insert .ensures, c .before .before .before .«record» .ensures)
 
 pub add-layer-spec : {M : Type 1} → statement M
 add-layer-spec =

@@ -24,7 +24,7 @@ with-shortcuts-requires c κs = search needs
 
 returns : tie.Need-returns
 unfolding attached
-returns c = rw (c .with-shortcuts .ensures, c .before .with-views .ensures, c .before .before .with-surfaces .ensures, c .before .before .before .without .ensures, c .before .before .before .before .before .add-layer .ensures, c .before .before .before .before .before .before .before .before .add-surface .ensures)
+returns c = rw (c .with-shortcuts .ensures, c .before .with-views .ensures, c .before .before .with-surfaces .ensures, c .before .before .before .without .ensures, c .before .before .before .before .add-layer .ensures, c .before .before .before .before .before .before .add-surface .ensures)
 
 pub attach-spec : {M : Type 1} → statement M
 attach-spec =

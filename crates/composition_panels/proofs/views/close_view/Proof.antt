@@ -27,7 +27,7 @@ returns c =
       c .before .with-views .ensures,
       c .before .before .with-arena .ensures,
       c .before .before .before .close-view-refusal .ensures,
-      c .before .before .before .before .before .release .ensures,
+      c .before .before .before .before .release .ensures,
     )
 
 pub close-view-spec : {M : Type 1} → statement M

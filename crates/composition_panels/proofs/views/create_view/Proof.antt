@@ -39,7 +39,7 @@ returns c =
       c .before .before .before .before .with-record .ensures,
       c .before .before .before .before .before .new .ensures,
       c .before .before .before .before .before .before .with-arena .ensures,
-      c .before .before .before .before .before .before .before .before .before .allocate .ensures,
+      c .before .before .before .before .before .before .before .before .allocate .ensures,
     )
 
 pub create-view-spec : {M : Type 1} → statement M

@@ -23,7 +23,7 @@ returns c =
       c .settle .ensures,
       c .before .with-windows .ensures,
       c .before .before .close-window-refusal .ensures,
-      c .before .before .before .before .release .ensures,
+      c .before .before .before .release .ensures,
     )
 
 pub close-window-spec : {M : Type 1} → statement M

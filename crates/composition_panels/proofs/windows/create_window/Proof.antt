@@ -27,7 +27,7 @@ returns c =
       c .before .settle .ensures,
       c .before .before .with-windows .ensures,
       c .before .before .before .create-window-refusal .ensures,
-      c .before .before .before .before .before .before .allocate .ensures,
+      c .before .before .before .before .before .allocate .ensures,
     )
 
 pub create-window-spec : {M : Type 1} → statement M

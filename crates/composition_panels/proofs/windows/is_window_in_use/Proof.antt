@@ -7,7 +7,7 @@ use borrow.Author.Needs.{needs}
 use Rattle.lists.specs.Below.{allBelow}
 use Rattle.lists.proofs.BelowLaws.{all-none, all-more}
 use Rattle.composition_panels.specs.Windows.{standsIn, isWindowInUse}
-use Rattle.composition_state.proofs.ViewLaws.{few-slots}
+use Rattle.records.proofs.ViewLaws.{few-slots}
 use Rattle.composition_panels.proofs.windows.is_window_in_use.Statement.{statement}
 use Rattle.composition_panels.proofs.windows.is_window_in_use.Tie as tie
 

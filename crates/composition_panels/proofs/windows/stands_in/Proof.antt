@@ -6,8 +6,8 @@ use Rattle.composition_panels.proofs.windows.stands_in.Tie as tie
 slot-at-requires : tie.Need-slot-at-requires
 slot-at-requires c κs = search needs
 
-cast-t10 : tie.Need-cast-t10
-cast-t10 c = search needs
+cast-t8 : tie.Need-cast-t8
+cast-t8 c = search needs
 
 record-requires : tie.Need-record-requires
 record-requires c κs = search needs
@@ -23,11 +23,11 @@ returns c =
     rw (
       c .both .ensures,
       c .before .same-handle .ensures,
-      c .before .before .before .«record» .ensures,
-      c .before .before .before .before .slot-at .ensures,
+      c .before .before .«record» .ensures,
+      c .before .before .before .slot-at .ensures,
     )
 
 pub stands-in-spec : {M : Type 1} → statement M
 stands-in-spec =
     tie.close
-    (tie.spec slot-at-requires cast-t10 record-requires same-handle-requires both-requires returns)
+    (tie.spec slot-at-requires cast-t8 record-requires same-handle-requires both-requires returns)

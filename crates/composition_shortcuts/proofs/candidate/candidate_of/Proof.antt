@@ -21,7 +21,7 @@ candidate-with-requires c κs = search needs
 
 returns : tie.Need-returns
 unfolding candidateOf
-returns c = rw (c .candidate-with .ensures, c .before .same-view-of .ensures, c .before .before .rank-of .ensures, c .before .before .before .before .descriptor .ensures, c .before .before .before .before .before .owner-of .ensures)
+returns c = rw (c .candidate-with .ensures, c .before .same-view-of .ensures, c .before .before .rank-of .ensures, c .before .before .before .descriptor .ensures, c .before .before .before .before .owner-of .ensures)
 
 pub candidate-of-spec : {M : Type 1} → statement M
 candidate-of-spec =

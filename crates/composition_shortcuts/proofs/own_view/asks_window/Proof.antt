@@ -7,8 +7,8 @@ use lib.ListN.{length}
 use Rattle.lists.specs.Tables.{entriesOf}
 use Rattle.lists.proofs.LoopLaws.{Searched, search-here, search-next, search-end}
 use Rattle.maps.specs.MapTables.{isSome}
-use Rattle.composition_state.specs.Shortcuts.{shortcuts}
-use Rattle.composition_state.proofs.ShortcutLaws.{few}
+use Rattle.records.specs.Shortcuts.{shortcuts}
+use Rattle.records.proofs.ShortcutLaws.{few}
 use Rattle.composition_shortcuts.specs.OwnView.{isAsking}
 use Rattle.composition_shortcuts.proofs.own_view.asks_window.Statement.{statement}
 use Rattle.composition_shortcuts.proofs.own_view.asks_window.Tie as tie

@@ -1,7 +1,7 @@
 -- `is_refused` meets its contract, by whether the panel's own view is live.
 use mathlib.Core.Path.{sym, ap, _∙_}
 use borrow.Author.Needs.{needs}
-use Rattle.composition_state.specs.Errors.{isAccepted}
+use Rattle.records.specs.Errors.{isAccepted}
 use Rattle.composition_shortcuts.proofs.own_view.is_refused.Statement.{statement}
 use Rattle.composition_shortcuts.proofs.own_view.is_refused.Tie as tie
 

@@ -13,7 +13,7 @@ refuse-status-requires : tie.Need-refuse-status-requires
 refuse-status-requires c κs = search needs
 
 returns : tie.Need-returns
-returns c = rw (c .refuse-status .ensures, c .before .lookup .ensures, c .before .before .before .descriptor .ensures)
+returns c = rw (c .refuse-status .ensures, c .before .lookup .ensures, c .before .before .descriptor .ensures)
 
 pub own-refusal-spec : {M : Type 1} → statement M
 own-refusal-spec =

@@ -8,7 +8,7 @@ use Rattle.lists.specs.Lists.{first}
 use Rattle.lists.specs.Tables.{entriesOf}
 use Rattle.lists.proofs.LoopLaws.{Searched, search-here, search-next, search-end}
 use Rattle.handles.specs.Slots.{handlesTable}
-use Rattle.composition_state.specs.Shortcuts.{shortcuts}
+use Rattle.records.specs.Shortcuts.{shortcuts}
 use Rattle.composition_shortcuts.specs.OwnView.{isRefused, refusalOf, ownViewRefusal}
 use Rattle.composition_shortcuts.proofs.LivePanelLaws.{panels-are, panels-count, panels-few}
 use Rattle.composition_shortcuts.proofs.own_view.own_view_refusal.Statement.{statement}

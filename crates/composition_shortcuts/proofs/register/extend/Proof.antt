@@ -8,8 +8,8 @@ use lib.ListN.{length, take}
 use lib.Seq.{take-length}
 use Rattle.lists.specs.Tables.{entriesOf, packed}
 use Rattle.lists.proofs.TableLaws.{len-packed}
-use Rattle.composition_state.specs.declared.shortcut.Shortcuts.{Shortcuts}
-use Rattle.composition_state.specs.Shortcuts.{shortcuts}
+use Rattle.records.specs.declared.shortcut.Shortcuts.{Shortcuts}
+use Rattle.records.specs.Shortcuts.{shortcuts}
 use Rattle.composition_shortcuts.specs.Register.{registrations, withSlot}
 use Rattle.composition_shortcuts.proofs.RegisterLaws.{few, extend-room, extend-turn}
 use Rattle.composition_shortcuts.proofs.register.extend.Statement.{statement}

@@ -4,9 +4,9 @@ use native.Mathlib.Omega.{arith}
 use borrow.Author.Needs.{needs}
 use lib.ListN.{length}
 use Rattle.lists.specs.Tables.{entriesOf}
-use Rattle.composition_state.specs.declared.shortcut.Shortcuts.{Shortcuts}
-use Rattle.composition_state.specs.Shortcuts.{shortcuts, shortcutsWithout}
-use Rattle.composition_state.proofs.ShortcutLaws as table
+use Rattle.records.specs.declared.shortcut.Shortcuts.{Shortcuts}
+use Rattle.records.specs.Shortcuts.{shortcuts, shortcutsWithout}
+use Rattle.records.proofs.ShortcutLaws as table
 use Rattle.composition_shortcuts.specs.Register.{registrations}
 use Rattle.composition_shortcuts.proofs.RegisterLaws.{few, others-few, entries-count}
 use Rattle.composition_shortcuts.proofs.register.has_room.Statement.{statement}

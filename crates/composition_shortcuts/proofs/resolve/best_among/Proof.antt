@@ -7,8 +7,8 @@ use borrow.Author.Needs.{needs}
 use lib.ListN.{length, take}
 use lib.Seq.{take-length}
 use Rattle.lists.specs.Tables.{entriesOf}
-use Rattle.composition_state.specs.Shortcuts.{shortcuts}
-use Rattle.composition_state.proofs.ShortcutLaws.{few}
+use Rattle.records.specs.Shortcuts.{shortcuts}
+use Rattle.records.proofs.ShortcutLaws.{few}
 use Rattle.composition_shortcuts.specs.Greatest.{greatest}
 use Rattle.composition_shortcuts.specs.Resolve.{bestAmong}
 use Rattle.composition_shortcuts.proofs.CandidateLaws.{turn-considered, turn-skipped}

@@ -8,9 +8,9 @@ use lib.ListN.{length}
 use lib.Dec.{leb}
 use Rattle.lists.specs.Tables.{entriesOf}
 use Rattle.lists.proofs.LoopLaws.{Tested, test-next, test-end}
-use Rattle.composition_state.specs.Traces.{traces}
+use Rattle.records.specs.Traces.{traces}
 use Rattle.composition_state.specs.Damage.{traceSound, tracesSound}
-use Rattle.composition_state.proofs.TraceLaws.{few}
+use Rattle.records.proofs.TraceLaws.{few}
 use Rattle.composition_state.proofs.damage.are_traces_sound.Statement.{statement}
 use Rattle.composition_state.proofs.damage.are_traces_sound.Tie as tie
 

@@ -12,11 +12,11 @@ use Rattle.handles.specs.Handles.{handleOf}
 use Rattle.handles.specs.Slots.{noSlot}
 use Rattle.handles.specs.declared.arena.Arena.{Arena}
 use Rattle.handles.specs.declared.arena.Slot.{Slot}
-use Rattle.composition_state.specs.declared.surface.SurfaceTable.{SurfaceTable}
-use Rattle.composition_state.specs.declared.view.ViewRecord.{ViewRecord}
-use Rattle.composition_state.specs.Views.{noView}
+use Rattle.records.specs.declared.surface.SurfaceTable.{SurfaceTable}
+use Rattle.records.specs.declared.view.ViewRecord.{ViewRecord}
+use Rattle.records.specs.Views.{noView}
 use Rattle.composition_state.specs.Damage.{viewSound, viewsSound}
-use Rattle.composition_state.proofs.ViewLaws.{long}
+use Rattle.records.proofs.ViewLaws.{long}
 use borrow.Author.Needs.{needs}
 use Rattle.composition_state.proofs.damage.are_views_sound.Statement.{statement}
 use Rattle.composition_state.proofs.damage.are_views_sound.Tie as tie

@@ -1,29 +1,13 @@
--- `from_read` meets its contract: the parts of the answer that the call has, and blanks for the others.
+-- `from_read` meets its contract: the answer is built from its parts and stands beside the counter.
 use borrow.Author.Needs.{needs}
 use Rattle.counter.proofs.step.from_read.Statement.{statement}
 use Rattle.counter.proofs.step.from_read.Tie as tie
 
-from-composition-requires : tie.Need-from-composition-requires
-from-composition-requires c κs = search needs
-
-nothing-requires : tie.Need-nothing-requires
-nothing-requires c κs = search needs
-
-no-report-requires : tie.Need-no-report-requires
-no-report-requires c κs = search needs
-
-nothing-requires-2 : tie.Need-nothing-requires-2
-nothing-requires-2 c κs = search needs
+of-read-requires : tie.Need-of-read-requires
+of-read-requires c κs = search needs
 
 returns : tie.Need-returns
-returns c = rw (c .nothing2 .ensures, c .before .no-report .ensures, c .before .before .nothing .ensures, c .before .before .before .from-composition .ensures)
+returns c = rw (c .of-read .ensures)
 
 pub from-read-spec : {M : Type 1} → statement M
-from-read-spec =
-    tie.close
-    (tie.spec
-    from-composition-requires
-    nothing-requires
-    no-report-requires
-    nothing-requires-2
-    returns)
+from-read-spec = tie.close (tie.spec of-read-requires returns)

@@ -1,29 +1,13 @@
--- `from_registry` meets its contract: the parts of the answer that the call has, and blanks for the others.
+-- `from_registry` meets its contract: the answer is built from its parts and stands beside the counter.
 use borrow.Author.Needs.{needs}
 use Rattle.counter.proofs.step.from_registry.Statement.{statement}
 use Rattle.counter.proofs.step.from_registry.Tie as tie
 
-from-composition-requires : tie.Need-from-composition-requires
-from-composition-requires c κs = search needs
-
-no-report-requires : tie.Need-no-report-requires
-no-report-requires c κs = search needs
-
-nothing-requires : tie.Need-nothing-requires
-nothing-requires c κs = search needs
-
-nothing-requires-2 : tie.Need-nothing-requires-2
-nothing-requires-2 c κs = search needs
+of-registry-requires : tie.Need-of-registry-requires
+of-registry-requires c κs = search needs
 
 returns : tie.Need-returns
-returns c = rw (c .nothing2 .ensures, c .before .nothing .ensures, c .before .before .no-report .ensures, c .before .before .before .from-composition .ensures)
+returns c = rw (c .before .of-registry .ensures)
 
 pub from-registry-spec : {M : Type 1} → statement M
-from-registry-spec =
-    tie.close
-    (tie.spec
-    from-composition-requires
-    no-report-requires
-    nothing-requires
-    nothing-requires-2
-    returns)
+from-registry-spec = tie.close (tie.spec of-registry-requires returns)

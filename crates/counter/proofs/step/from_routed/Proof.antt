@@ -1,20 +1,13 @@
--- `from_routed` meets its contract: the parts of the answer that the call has, and blanks for the others.
+-- `from_routed` meets its contract: the answer is built from its parts and stands beside the counter.
 use borrow.Author.Needs.{needs}
 use Rattle.counter.proofs.step.from_routed.Statement.{statement}
 use Rattle.counter.proofs.step.from_routed.Tie as tie
 
-nothing-requires : tie.Need-nothing-requires
-nothing-requires c κs = search needs
-
-nothing-requires-2 : tie.Need-nothing-requires-2
-nothing-requires-2 c κs = search needs
-
-nothing-requires-3 : tie.Need-nothing-requires-3
-nothing-requires-3 c κs = search needs
+of-report-requires : tie.Need-of-report-requires
+of-report-requires c κs = search needs
 
 returns : tie.Need-returns
-returns c = rw (c .nothing3 .ensures, c .before .nothing2 .ensures, c .before .before .nothing .ensures)
+returns c = rw (c .before .before .of-report .ensures)
 
 pub from-routed-spec : {M : Type 1} → statement M
-from-routed-spec =
-    tie.close (tie.spec nothing-requires nothing-requires-2 nothing-requires-3 returns)
+from-routed-spec = tie.close (tie.spec of-report-requires returns)

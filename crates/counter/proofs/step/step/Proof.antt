@@ -66,11 +66,11 @@ returns-3 c = rw (c .before .before .call3 .given .1, c .device-call .ensures)
 
 returns-4 : tie.Need-returns-4
 unfolding stepped
-returns-4 c = rw (c .before .before .before .call4 .given .1, c .shortcut-call .ensures)
+returns-4 c = rw (c .before .before .call4 .given .1, c .shortcut-call .ensures)
 
 returns-5 : tie.Need-returns-5
 unfolding stepped
-returns-5 c = rw (c .before .before .before .call5 .given .1, c .arbitrate-call .ensures)
+returns-5 c = rw (c .before .before .call5 .given .1, c .arbitrate-call .ensures)
 
 returns-6 : tie.Need-returns-6
 unfolding stepped

@@ -31,7 +31,7 @@ same-length c = search needs
 returns : tie.Need-returns
 unfolding made
 returns c =
-    rw (c .memory-of .ensures, ap (λ (z : List ℕ × ℕ). z .0) (c .before .before .before .put-answer .ensures), ap (λ (z : List ℕ × ℕ). z .1) (c .before .before .before .put-answer .ensures), c .before .before .before .before .before .before .before .step .ensures, c .before .before .before .before .before .before .before .before .counter-of .ensures, c .before .before .before .before .before .before .before .before .before .registrations-of .ensures, c .before .before .before .before .before .before .before .before .before .before .call-at .ensures)
+    rw (c .memory-of .ensures, ap (λ (z : List ℕ × ℕ). z .0) (c .before .before .before .put-answer .ensures), ap (λ (z : List ℕ × ℕ). z .1) (c .before .before .before .put-answer .ensures), c .before .before .before .before .before .step .ensures, c .before .before .before .before .before .before .counter-of .ensures, c .before .before .before .before .before .before .before .registrations-of .ensures, c .before .before .before .before .before .before .before .before .call-at .ensures)
 
 pub make-spec : {M : Type 1} → statement M
 make-spec = tie.close (tie.spec call-at-requires registrations-of-requires counter-of-requires step-requires put-answer-requires memory-of-requires same-length returns)

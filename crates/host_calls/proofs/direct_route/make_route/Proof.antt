@@ -28,7 +28,7 @@ same-length c = search needs
 returns : tie.Need-returns
 unfolding routeMade
 returns c =
-    rw (c .memory-of .ensures, ap (λ (z : List ℕ × ℕ). z .0) (c .before .before .before .put-answer .ensures), ap (λ (z : List ℕ × ℕ). z .1) (c .before .before .before .put-answer .ensures), c .before .before .before .before .before .before .before .router-step .ensures, c .before .before .before .before .before .before .before .before .counter-of .ensures, c .before .before .before .before .before .before .before .before .before .router-at .ensures)
+    rw (c .memory-of .ensures, ap (λ (z : List ℕ × ℕ). z .0) (c .before .before .before .put-answer .ensures), ap (λ (z : List ℕ × ℕ). z .1) (c .before .before .before .put-answer .ensures), c .before .before .before .before .before .router-step .ensures, c .before .before .before .before .before .before .counter-of .ensures, c .before .before .before .before .before .before .before .router-at .ensures)
 
 pub make-route-spec : {M : Type 1} → statement M
 make-route-spec = tie.close (tie.spec router-at-requires counter-of-requires router-step-requires put-answer-requires memory-of-requires same-length returns)

@@ -2,8 +2,8 @@
 use mathlib.Core.Path.{refl}
 use mathlib.Core.List.{[], _∷_}
 use denote.Memory.{pointee}
-use Rattle.handles.proofs.handle.GenerationalHandle as Handle
-use Rattle.handles.proofs.handle.GenerationalHandle.Laws as HandleLaws
+use Rattle.handles.proofs.GenerationalHandle as Handle
+use Rattle.handles.proofs.GenerationalHandle.Laws as HandleLaws
 use Rattle.input_router.specs.Releases.{releaseSurface}
 use Rattle.input_router.proofs.router.PlatformInputRouter as Router
 use Rattle.input_router.proofs.router.PlatformInputRouter.Laws as RouterLaws

@@ -1,6 +1,6 @@
 -- `count` meets its contract: the stored count, cut at the number of places.
 use Rattle.lists.proofs.TableLaws.{count-below, count-above}
-use Rattle.composition_state.specs.Traces.{deliveries}
+use Rattle.records.specs.Traces.{deliveries}
 use Rattle.input_events.proofs.DeliveryLaws.{long}
 use Rattle.input_events.proofs.presses.count.Statement.{statement}
 use Rattle.input_events.proofs.presses.count.Tie as tie

@@ -6,7 +6,7 @@ use borrow.Author.Needs.{needs}
 use lib.ListN.{length}
 use Rattle.lists.specs.Tables.{entriesOf}
 use Rattle.lists.proofs.LoopLaws.{Searched, search-here, search-next, search-end}
-use Rattle.composition_state.specs.Traces.{deliveries as stateDeliveries}
+use Rattle.records.specs.Traces.{deliveries as stateDeliveries}
 use Rattle.input_events.specs.Presses.{isUnobserved, deliverySurface}
 use Rattle.input_events.proofs.DeliveryLaws.{few}
 use Rattle.input_events.proofs.presses.first_unobserved.Statement.{statement}

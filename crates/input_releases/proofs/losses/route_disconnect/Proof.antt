@@ -34,11 +34,11 @@ refused-requires c κs = search needs
 
 returns : tie.Need-returns
 unfolding routedDisconnect
-returns c = rw (c .without-device .ensures, c .before .disconnect-report .ensures, c .before .before .add-captures .ensures, c .before .before .before .before .before .before .before .before .device-presses .ensures, sym (c .before .before .before .before .before .before .before .release-device-pointer-captures .ensures), c .before .before .before .enum-told .given .1)
+returns c = rw (c .without-device .ensures, c .before .disconnect-report .ensures, c .before .before .add-captures .ensures, c .before .before .before .before .before .before .before .device-presses .ensures, sym (c .before .before .before .before .before .before .release-device-pointer-captures .ensures), c .before .before .before .enum-told .given .1)
 
 returns-2 : tie.Need-returns-2
 unfolding routedDisconnect
-returns-2 c = rw (c .refused .ensures, c .before .without-device-presses .ensures, sym (c .before .before .before .before .before .before .before .release-device-pointer-captures .ensures), c .before .before .before .outcome .given .1)
+returns-2 c = rw (c .refused .ensures, c .before .without-device-presses .ensures, sym (c .before .before .before .before .before .before .release-device-pointer-captures .ensures), c .before .before .before .outcome .given .1)
 
 pub route-disconnect-spec : {M : Type 1} → statement M
 route-disconnect-spec =

@@ -20,7 +20,7 @@ refused-requires c κs = search needs
 
 returns : tie.Need-returns
 returns c =
-    let a = c .before .before .before .before .before .before .before .before .before .before .args in
+    let a = c .before .before .before .before .before .before .args in
     let is : c .before .before .before .before .route-refusal .result ≡ checked (a .registry) (a .router) (a .event) = c .before .before .before .before .route-refusal .ensures ∙ rw (c .before .before .before .before .before .is-sound .ensures) in
     c .refused .ensures ∙ sym (refused (a .registry) (a .router) (a .event) _ (sym is ∙ c .before .before .error .given .1))
 
@@ -38,7 +38,7 @@ route-disconnect-requires c κs = search needs
 
 returns-2 : tie.Need-returns-2
 returns-2 c =
-    let a = c .before .before .before .before .before .before .before .before .before .before .before .before .args in
+    let a = c .before .before .before .before .before .before .before .before .args in
     let is : c .before .before .before .before .before .before .route-refusal .result ≡ checked (a .registry) (a .router) (a .event) = c .before .before .before .before .before .before .route-refusal .ensures ∙ rw (c .before .before .before .before .before .before .before .is-sound .ensures) in
     let passed = sym is ∙ c .before .before .before .before .enum-told .given .1 in
     c .route-disconnect .ensures ∙ rw (c .before .before .before .record-event .ensures) (sym (disconnected (a .registry) (a .router) (a .event) passed (sym (c .before .before .is-disconnect .ensures) ∙ c .before .if1 .taken)))
@@ -51,7 +51,7 @@ route-loss-requires c κs = search needs
 
 returns-3 : tie.Need-returns-3
 returns-3 c =
-    let a = c .before .before .before .before .before .before .before .before .before .before .before .before .before .before .args in
+    let a = c .before .before .before .before .before .before .before .before .before .before .args in
     let is : c .before .before .before .before .before .before .before .before .route-refusal .result ≡ checked (a .registry) (a .router) (a .event) = c .before .before .before .before .before .before .before .before .route-refusal .ensures ∙ rw (c .before .before .before .before .before .before .before .before .before .is-sound .ensures) in
     let passed = sym is ∙ c .before .before .before .before .before .before .enum-told .given .1 in
     let kept = sym (c .before .before .before .before .is-disconnect .ensures) ∙ c .before .before .before .if1 .left in
@@ -80,7 +80,7 @@ refused-requires-2 c κs = search needs
 
 returns-4 : tie.Need-returns-4
 returns-4 c =
-    let a = c .before .before .before .before .before .before .before .before .before .before .before .before .before .before .before .before .before .before .before .before .before .before .before .args in
+    let a = c .before .before .before .before .before .before .before .before .before .before .before .before .before .before .before .before .before .before .before .args in
     let is : c .before .before .before .before .before .before .before .before .before .before .before .before .before .before .before .before .before .route-refusal .result ≡ checked (a .registry) (a .router) (a .event) = c .before .before .before .before .before .before .before .before .before .before .before .before .before .before .before .before .before .route-refusal .ensures ∙ rw (c .before .before .before .before .before .before .before .before .before .before .before .before .before .before .before .before .before .before .is-sound .ensures) in
     let passed = sym is ∙ c .before .before .before .before .before .before .before .before .before .before .before .before .before .before .before .enum-told .given .1 in
     let kept = sym (c .before .before .before .before .before .before .before .before .before .before .before .before .before .is-disconnect .ensures) ∙ c .before .before .before .before .before .before .before .before .before .before .before .before .if1 .left in
@@ -114,14 +114,14 @@ with-traces-at-requires c κs = search needs
 
 returns-5 : tie.Need-returns-5
 returns-5 c =
-    let a = c .before .before .before .before .before .before .before .before .before .before .before .before .before .before .before .before .before .before .before .before .before .before .before .before .before .before .before .before .before .before .before .args in
-    let is : c .before .before .before .before .before .before .before .before .before .before .before .before .before .before .before .before .before .before .before .before .before .before .before .before .before .route-refusal .result ≡ checked (a .registry) (a .router) (a .event) = c .before .before .before .before .before .before .before .before .before .before .before .before .before .before .before .before .before .before .before .before .before .before .before .before .before .route-refusal .ensures ∙ rw (c .before .before .before .before .before .before .before .before .before .before .before .before .before .before .before .before .before .before .before .before .before .before .before .before .before .before .is-sound .ensures) in
-    let passed = sym is ∙ c .before .before .before .before .before .before .before .before .before .before .before .before .before .before .before .before .before .before .before .before .before .before .before .enum-told .given .1 in
-    let kept = sym (c .before .before .before .before .before .before .before .before .before .before .before .before .before .before .before .before .before .before .before .before .before .is-disconnect .ensures) ∙ c .before .before .before .before .before .before .before .before .before .before .before .before .before .before .before .before .before .before .before .before .if1 .left in
-    let stays = sym (c .before .before .before .before .before .before .before .before .before .before .before .before .before .before .before .before .before .before .before .is-loss .ensures) ∙ c .before .before .before .before .before .before .before .before .before .before .before .before .before .before .before .before .before .before .if2 .left in
-    let made : c .before .before .before .before .before .before .before .before .before .before .before .before .before .decide .result ≡ decision (a .registry) (a .router) (a .event) = c .before .before .before .before .before .before .before .before .before .before .before .before .before .decide .ensures ∙ rw (c .before .before .before .before .before .before .before .before .before .before .before .before .before .before .hits-for .ensures, c .before .before .before .before .before .before .before .before .before .before .before .before .before .before .before .refuse-if .ensures, c .before .before .before .before .before .before .before .before .before .before .before .before .before .before .before .before .arbitration-event .ensures, c .before .before .before .before .before .before .before .before .before .before .before .before .before .before .before .before .before .held-for .ensures, c .before .before .before .before .before .before .before .before .before .before .before .before .before .before .before .before .before .before .before .before .before .before .record-event .ensures, c .before .before .before .before .before .before .before .before .before .before .before .before .before .before .before .before .before .before .before .before .before .before .before .before .before .before .is-sound .ensures) in
-    let told = sym (ap (λ (d : Decision). d .outcome) made) ∙ c .before .before .before .before .before .before .before .before .before .before .enum-told2 .given .1 in
-    rw (c .with-traces-at .ensures, c .before .arbitrated-report .ensures, c .before .before .result-of .ensures, c .before .before .before .track .ensures, c .before .before .before .before .receiver .ensures, c .before .before .before .before .before .effect-of .ensures, c .before .before .before .before .before .before .push-trace .ensures, c .before .before .before .before .before .before .before .before .before .before .before .before .before .before .before .before .before .before .before .before .before .before .record-event .ensures, made) (sym (arbitrated (a .registry) (a .router) (a .event) passed kept stays told))
+    let a = c .before .before .before .before .before .before .before .before .before .before .before .before .before .before .before .before .before .before .before .before .before .before .before .before .args in
+    let is : c .before .before .before .before .before .before .before .before .before .before .before .before .before .before .before .before .before .before .before .before .before .before .route-refusal .result ≡ checked (a .registry) (a .router) (a .event) = c .before .before .before .before .before .before .before .before .before .before .before .before .before .before .before .before .before .before .before .before .before .before .route-refusal .ensures ∙ rw (c .before .before .before .before .before .before .before .before .before .before .before .before .before .before .before .before .before .before .before .before .before .before .before .is-sound .ensures) in
+    let passed = sym is ∙ c .before .before .before .before .before .before .before .before .before .before .before .before .before .before .before .before .before .before .before .before .enum-told .given .1 in
+    let kept = sym (c .before .before .before .before .before .before .before .before .before .before .before .before .before .before .before .before .before .before .is-disconnect .ensures) ∙ c .before .before .before .before .before .before .before .before .before .before .before .before .before .before .before .before .before .if1 .left in
+    let stays = sym (c .before .before .before .before .before .before .before .before .before .before .before .before .before .before .before .before .is-loss .ensures) ∙ c .before .before .before .before .before .before .before .before .before .before .before .before .before .before .before .if2 .left in
+    let made : c .before .before .before .before .before .before .before .before .before .before .decide .result ≡ decision (a .registry) (a .router) (a .event) = c .before .before .before .before .before .before .before .before .before .before .decide .ensures ∙ rw (c .before .before .before .before .before .before .before .before .before .before .before .hits-for .ensures, c .before .before .before .before .before .before .before .before .before .before .before .before .refuse-if .ensures, c .before .before .before .before .before .before .before .before .before .before .before .before .before .arbitration-event .ensures, c .before .before .before .before .before .before .before .before .before .before .before .before .before .before .held-for .ensures, c .before .before .before .before .before .before .before .before .before .before .before .before .before .before .before .before .before .before .before .record-event .ensures, c .before .before .before .before .before .before .before .before .before .before .before .before .before .before .before .before .before .before .before .before .before .before .before .is-sound .ensures) in
+    let told = sym (ap (λ (d : Decision). d .outcome) made) ∙ c .before .before .before .before .before .before .before .enum-told2 .given .1 in
+    rw (c .with-traces-at .ensures, c .before .arbitrated-report .ensures, c .before .before .result-of .ensures, c .before .before .before .track .ensures, c .before .before .before .before .receiver .ensures, c .before .before .before .before .before .effect-of .ensures, c .before .before .before .before .before .before .push-trace .ensures, c .before .before .before .before .before .before .before .before .before .before .before .before .before .before .before .before .before .before .before .record-event .ensures, made) (sym (arbitrated (a .registry) (a .router) (a .event) passed kept stays told))
 
 pub route-spec : {M : Type 1} → statement M
 route-spec =

@@ -16,7 +16,7 @@ returns : tie.Need-returns
 returns c = search needs
 
 returns-2 : tie.Need-returns-2
-returns-2 c = simp (← c .refusal .ensures, c .before .before .before .stop .given .1)
+returns-2 c = simp (← c .refusal .ensures, c .before .before .stop .given .1)
 
 pub closed-refusal-spec : {M : Type 1} → statement M
 closed-refusal-spec =

@@ -16,7 +16,7 @@ both-requires : tie.Need-both-requires
 both-requires c κs = search needs
 
 returns : tie.Need-returns
-returns c = rw (c .both .ensures, c .before .same-handle .ensures, c .before .before .is-reached .ensures, c .before .before .before .before .descriptor .ensures)
+returns c = rw (c .both .ensures, c .before .same-handle .ensures, c .before .before .is-reached .ensures, c .before .before .before .descriptor .ensures)
 
 pub is-taken-spec : {M : Type 1} → statement M
 is-taken-spec =

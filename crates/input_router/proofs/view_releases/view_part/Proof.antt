@@ -10,12 +10,12 @@ use Rattle.lists.specs.Lists.{keep}
 use Rattle.lists.specs.Tables.{entriesOf, packed}
 use Rattle.lists.proofs.ListLaws.{length-keep}
 use Rattle.lists.proofs.TableLaws.{len-packed, turn-room, turn-yes, turn-no}
-use Rattle.handles.specs.declared.handle.GenerationalHandle.{GenerationalHandle}
+use Rattle.handles.specs.declared.GenerationalHandle.{GenerationalHandle}
 use Rattle.maps.specs.Bindings.{bindings}
 use Rattle.maps.specs.declared.bindings.Binding.{Binding}
 use Rattle.maps.specs.declared.bindings.Bindings.{Bindings}
 use Rattle.maps.proofs.BindingLaws.{few}
-use Rattle.composition_state.specs.declared.surface.SurfaceTable.{SurfaceTable}
+use Rattle.records.specs.declared.surface.SurfaceTable.{SurfaceTable}
 use Rattle.input_router.specs.declared.view_releases.OptionalPress.{OptionalPress}
 use Rattle.input_router.specs.ViewReleases.{isTaken}
 use borrow.Author.Needs.{needs}

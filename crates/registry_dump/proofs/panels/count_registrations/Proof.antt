@@ -6,8 +6,8 @@ use native.Mathlib.Omega.{arith}
 use lib.ListN.{length}
 use borrow.Author.Needs.{needs}
 use Rattle.lists.specs.Tables.{entriesOf}
-use Rattle.composition_state.specs.Shortcuts.{shortcuts}
-use Rattle.composition_state.proofs.ShortcutLaws.{few}
+use Rattle.records.specs.Shortcuts.{shortcuts}
+use Rattle.records.proofs.ShortcutLaws.{few}
 use Rattle.answer_numbers.proofs.EachLaws.{Counted, none-counted, counted-few, entry-counted, all-counted, one-fits}
 use Rattle.registry_dump.specs.Panels.{isOfSlot}
 use Rattle.registry_dump.proofs.panels.count_registrations.Statement.{statement}

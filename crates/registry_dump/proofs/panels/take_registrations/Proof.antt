@@ -5,8 +5,8 @@ use native.Mathlib.Omega.{arith}
 use lib.ListN.{length}
 use borrow.Author.Needs.{needs}
 use Rattle.lists.specs.Tables.{entriesOf}
-use Rattle.composition_state.specs.Shortcuts.{shortcuts}
-use Rattle.composition_state.proofs.ShortcutLaws.{few}
+use Rattle.records.specs.Shortcuts.{shortcuts}
+use Rattle.records.proofs.ShortcutLaws.{few}
 use Rattle.answer_numbers.proofs.EachLaws.{Taken, none-taken, entry-taken, ifPasses, kept-taken}
 use Rattle.answer_numbers.proofs.TakeLaws.{then, stored, same-size}
 use Rattle.registry_dump.specs.Panels.{isOfSlot, registrationNumbers}

@@ -25,8 +25,8 @@ value-requires c κs = search needs
 returns : tie.Need-returns
 returns c =
     c .value .ensures
-    ∙ ap (λ (s : List ℕ × Sink). valueOf (s .1 .digest)) (c .before .before .before .take-registry .ensures)
-    ∙ rw (c .before .before .before .before .sink-from .ensures) (digest-taken (registryNumbers (c .before .before .before .before .before .before .args .registry)) _ 0)
+    ∙ ap (λ (s : List ℕ × Sink). valueOf (s .1 .digest)) (c .before .before .take-registry .ensures)
+    ∙ rw (c .before .before .before .sink-from .ensures) (digest-taken (registryNumbers (c .before .before .before .before .before .args .registry)) _ 0)
 
 pub registry-digest-spec : {M : Type 1} → statement M
 registry-digest-spec =

@@ -1,6 +1,6 @@
 -- `count_hits` meets its contract: the stored count, cut at the number of places.
 use Rattle.lists.proofs.TableLaws.{count-below, count-above}
-use Rattle.composition_state.specs.Traces.{hits}
+use Rattle.records.specs.Traces.{hits}
 use Rattle.registry_dump.proofs.TraceListLaws.{hits-long}
 use Rattle.registry_dump.proofs.traces.count_hits.Statement.{statement}
 use Rattle.registry_dump.proofs.traces.count_hits.Tie as tie

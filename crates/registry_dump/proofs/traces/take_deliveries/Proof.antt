@@ -5,7 +5,7 @@ use native.Mathlib.Omega.{arith}
 use lib.ListN.{length}
 use borrow.Author.Needs.{needs}
 use Rattle.lists.specs.Tables.{entriesOf}
-use Rattle.composition_state.specs.Traces.{deliveries}
+use Rattle.records.specs.Traces.{deliveries}
 use Rattle.answer_numbers.proofs.EachLaws.{Taken, none-taken, entry-taken, all-taken}
 use Rattle.answer_numbers.proofs.TakeLaws.{then, same-size}
 use Rattle.registry_dump.specs.Traces.{deliveryNumbers}

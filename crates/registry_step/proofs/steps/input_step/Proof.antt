@@ -82,7 +82,7 @@ returns c = rw (c .before .before .before .before .call .given .1, c .of-changed
 
 returns-2 : tie.Need-returns-2
 unfolding inputStep
-returns-2 c = rw (c .before .before .before .before .call2 .given .1, c .of-changed2 .ensures, c .before .capture-pointer .ensures)
+returns-2 c = rw (c .before .before .before .call2 .given .1, c .of-changed2 .ensures, c .before .capture-pointer .ensures)
 
 returns-3 : tie.Need-returns-3
 unfolding inputStep
@@ -90,7 +90,7 @@ returns-3 c = rw (c .before .before .before .before .before .call3 .given .1, c 
 
 returns-4 : tie.Need-returns-4
 unfolding inputStep
-returns-4 c = rw (c .before .before .before .before .call4 .given .1, c .of-changed4 .ensures, c .before .release-pointer .ensures)
+returns-4 c = rw (c .before .before .before .call4 .given .1, c .of-changed4 .ensures, c .before .release-pointer .ensures)
 
 returns-5 : tie.Need-returns-5
 unfolding inputStep
@@ -98,15 +98,15 @@ returns-5 c = rw (c .before .before .before .before .before .call5 .given .1, c 
 
 returns-6 : tie.Need-returns-6
 unfolding inputStep
-returns-6 c = rw (c .before .before .before .before .call6 .given .1, c .of-changed6 .ensures, c .before .begin-ime .ensures)
+returns-6 c = rw (c .before .before .before .call6 .given .1, c .of-changed6 .ensures, c .before .begin-ime .ensures)
 
 returns-7 : tie.Need-returns-7
 unfolding inputStep
-returns-7 c = rw (c .before .before .before .before .call7 .given .1, c .of-changed7 .ensures, c .before .end-ime .ensures)
+returns-7 c = rw (c .before .before .before .call7 .given .1, c .of-changed7 .ensures, c .before .end-ime .ensures)
 
 returns-8 : tie.Need-returns-8
 unfolding inputStep
-returns-8 c = rw (c .before .before .before .before .call8 .given .1, c .of-suspended .ensures, c .before .suspend-view-input .ensures)
+returns-8 c = rw (c .before .before .before .call8 .given .1, c .of-suspended .ensures, c .before .suspend-view-input .ensures)
 
 pub input-step-spec : {M : Type 1} → statement M
 input-step-spec =

@@ -102,11 +102,11 @@ returns-6 c = rw (c .before .before .before .call5 .given .1, c .of-created3 .en
 
 returns-7 : tie.Need-returns-7
 unfolding panelStep
-returns-7 c = rw (c .before .before .before .before .before .call6 .given .1, c .of-changed3 .ensures, c .before .update-surface-geometry .ensures)
+returns-7 c = rw (c .before .before .before .before .call6 .given .1, c .of-changed3 .ensures, c .before .update-surface-geometry .ensures)
 
 returns-8 : tie.Need-returns-8
 unfolding panelStep
-returns-8 c = rw (c .before .before .before .before .call7 .given .1, c .of-changed4 .ensures, c .before .update-surface-input-policy .ensures)
+returns-8 c = rw (c .before .before .before .call7 .given .1, c .of-changed4 .ensures, c .before .update-surface-input-policy .ensures)
 
 pub panel-step-spec : {M : Type 1} → statement M
 panel-step-spec =

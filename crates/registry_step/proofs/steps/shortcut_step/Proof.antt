@@ -38,11 +38,11 @@ returns c = rw (c .before .before .before .before .call .given .1, c .of-changed
 
 returns-2 : tie.Need-returns-2
 unfolding shortcutStep
-returns-2 c = rw (c .before .before .before .before .call2 .given .1, c .of-changed2 .ensures, c .before .register-surface-system-shortcuts .ensures)
+returns-2 c = rw (c .before .before .before .call2 .given .1, c .of-changed2 .ensures, c .before .register-surface-system-shortcuts .ensures)
 
 returns-3 : tie.Need-returns-3
 unfolding shortcutStep
-returns-3 c = rw (c .before .before .before .before .call3 .given .1, c .of-changed3 .ensures, c .before .set-surface-system-shortcuts .ensures)
+returns-3 c = rw (c .before .before .before .call3 .given .1, c .of-changed3 .ensures, c .before .set-surface-system-shortcuts .ensures)
 
 pub shortcut-step-spec : {M : Type 1} → statement M
 shortcut-step-spec =

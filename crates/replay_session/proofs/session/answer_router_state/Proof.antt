@@ -17,7 +17,7 @@ same-length c = search needs
 returns : tie.Need-returns
 unfolding answeredSession
 returns c =
-    let a = c .before .before .before .before .before .before .before .before .before .before .before .args in
+    let a = c .before .before .before .before .before .before .before .before .before .args in
     c .before .before .finish .ensures ∙ ap (finished (a .calls) (a .are-digests-shown) (a .counter)) (c .before .before .before .before .before .before .put-router-state .ensures)
 
 pub answer-router-state-spec : {M : Type 1} → statement M

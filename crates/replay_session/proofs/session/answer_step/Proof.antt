@@ -20,8 +20,8 @@ same-length c = search needs
 returns : tie.Need-returns
 unfolding answeredStep
 returns c =
-    let a = c .before .before .before .before .before .before .before .before .before .before .before .before .args in
-    rw (c .before .before .before .before .before .before .before .before .before .before .step .ensures) at (c .before .before .finish .ensures ∙ ap (finished (a .calls) (a .are-digests-shown) (c .before .before .before .before .before .before .before .before .before .before .step .result .counter)) (c .before .before .before .before .before .before .put-answer .ensures))
+    let a = c .before .before .before .before .before .before .before .before .before .before .args in
+    rw (c .before .before .before .before .before .before .before .before .step .ensures) at (c .before .before .finish .ensures ∙ ap (finished (a .calls) (a .are-digests-shown) (c .before .before .before .before .before .before .before .before .step .result .counter)) (c .before .before .before .before .before .before .put-answer .ensures))
 
 pub answer-step-spec : {M : Type 1} → statement M
 answer-step-spec =

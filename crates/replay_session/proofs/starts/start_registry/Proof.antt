@@ -16,7 +16,7 @@ number-requires c κs = search needs
 returns : tie.Need-returns
 unfolding startedRegistry
 returns c =
-    rw (c .number .ensures, c .before .keep-registry .ensures, c .before .before .before .new-at .ensures)
+    rw (c .number .ensures, c .before .keep-registry .ensures, c .before .before .new-at .ensures)
 
 pub start-registry-spec : {M : Type 1} → statement M
 start-registry-spec =

@@ -18,7 +18,7 @@ are-traces-sound-requires c κs = search needs
 
 are-views-sound-requires : tie.Need-are-views-sound-requires
 are-views-sound-requires c κs =
-    let a = c .before .before .before .before .before .before .before .before .before .before .before .before .before .before .before .before .args .self in
+    let a = c .before .before .before .before .before .before .before .before .args .self in
     let limited = sym (c .before .before .before .before .before .before .before .are-limits-sound .ensures) ∙ c .before .before .before .before .before .before .if1 .taken in
     views-within (a .limits) (a .«first_generation») (a .windows) (a .views .arena) (a .surfaces .arena) limited (sym (c .before .before .before .before .before .are-arenas-sound .ensures) ∙ c .before .before .before .before .if2 .taken)
 

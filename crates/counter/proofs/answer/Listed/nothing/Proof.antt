@@ -4,8 +4,8 @@ use borrow.Author.Needs.{needs}
 use Rattle.counter.proofs.answer.Listed.nothing.Statement.{statement}
 use Rattle.counter.proofs.answer.Listed.nothing.Tie as tie
 
-no-captures-requires : tie.Need-no-captures-requires
-no-captures-requires c κs = search needs
+new-requires : tie.Need-new-requires
+new-requires c κs = search needs
 
 blank-requires : tie.Need-blank-requires
 blank-requires c κs = search needs
@@ -15,7 +15,7 @@ blank-requires-2 c κs = search needs
 
 returns : tie.Need-returns
 unfolding nothingListed
-returns c = rw (c .before .before .no-captures .ensures, c .before .blank .ensures, c .blank2 .ensures)
+returns c = rw (c .before .before .new .ensures, c .before .blank .ensures, c .blank2 .ensures)
 
 pub nothing-spec : {M : Type 1} → statement M
-nothing-spec = tie.close (tie.spec no-captures-requires blank-requires blank-requires-2 returns)
+nothing-spec = tie.close (tie.spec new-requires blank-requires blank-requires-2 returns)

@@ -21,10 +21,10 @@ count-requires : tie.Need-count-requires
 count-requires c κs = search needs
 
 returns : tie.Need-returns
-returns c = let d = c .before .before in rw (some-found (found bindings keyOfBinding (bindingKey (d .before .before .args .key)) (d .before .before .args .self .bindings)) _ (sym (d .get .ensures) ∙ c .enum-told .given .1))
+returns c = let d = c .before .before in rw (some-found (found bindings keyOfBinding (bindingKey (d .before .args .key)) (d .before .args .self .bindings)) _ (sym (d .get .ensures) ∙ c .enum-told .given .1))
 
 returns-2 : tie.Need-returns-2
-returns-2 c = let d = c .before .before .before .before in rw (none-found (found bindings keyOfBinding (bindingKey (d .before .before .args .key)) (d .before .before .args .self .bindings)) (sym (d .get .ensures) ∙ c .before .before .enum-told2 .given .1), c .before .count .ensures)
+returns-2 c = let d = c .before .before .before .before in rw (none-found (found bindings keyOfBinding (bindingKey (d .before .args .key)) (d .before .args .self .bindings)) (sym (d .get .ensures) ∙ c .before .before .enum-told2 .given .1), c .before .count .ensures)
 
 pub has-room-spec : {M : Type 1} → statement M
 has-room-spec =

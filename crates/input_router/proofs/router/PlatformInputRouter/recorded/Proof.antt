@@ -18,13 +18,13 @@ with-timestamp-requires c κs = search needs
 returns : tie.Need-returns
 returns c =
     let d = c .before .before .before .before in
-    let a = d .before .before .args in
+    let a = d .before .args in
     let taken = sym (flag-is (sequenceEntry (a .device) (a .sequence)) (a .self .«device_sequences») (d .insert .result) (d .insert .ensures)) ∙ c .before .before .before .if1 .taken in
     rw (c .with-timestamp .ensures, c .before .with-sequences .ensures, map-is (sequenceEntry (a .device) (a .sequence)) (a .self .«device_sequences») (d .insert .result) (d .insert .ensures) taken, taken)
 
 returns-2 : tie.Need-returns-2
 returns-2 c =
-    let a = c .before .before .before .args in
+    let a = c .before .before .args in
     rw (sym (flag-is (sequenceEntry (a .device) (a .sequence)) (a .self .«device_sequences») (c .before .insert .result) (c .before .insert .ensures)) ∙ c .if1 .left)
 
 pub recorded-spec : {M : Type 1} → statement M

@@ -28,7 +28,7 @@ with-timestamp-requires c κs = search needs
 
 returns : tie.Need-returns
 unfolding releaseAll
-returns c = rw (sym (c .before .before .before .before .before .before .before .before .is-sound .ensures) ∙ c .before .before .before .before .before .before .before .if1 .taken, c .with-timestamp .ensures, c .before .with-sequences .ensures, c .before .before .new2 .ensures, c .before .before .before .with-bindings .ensures, c .before .before .before .before .new .ensures, c .before .before .before .before .before .by-panel .ensures)
+returns c = rw (sym (c .before .before .before .before .before .before .before .is-sound .ensures) ∙ c .before .before .before .before .before .before .if1 .taken, c .with-timestamp .ensures, c .before .with-sequences .ensures, c .before .before .new2 .ensures, c .before .before .before .with-bindings .ensures, c .before .before .before .before .new .ensures, c .before .before .before .before .before .by-panel .ensures)
 
 new-requires-3 : tie.Need-new-requires-3
 new-requires-3 c κs = search needs

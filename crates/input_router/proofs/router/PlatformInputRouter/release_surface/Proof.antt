@@ -24,7 +24,7 @@ with-bindings-requires c κs = search needs
 
 returns : tie.Need-returns
 unfolding releaseSurface
-returns c = rw (sym (c .before .before .before .before .before .before .is-sound .ensures) ∙ c .before .before .before .before .before .if1 .taken, c .with-bindings .ensures, c .before .of-presses .ensures, c .before .before .retain2 .ensures, c .before .before .before .retain .ensures, entries-packed bindings)
+returns c = rw (sym (c .before .before .before .before .before .is-sound .ensures) ∙ c .before .before .before .before .if1 .taken, c .with-bindings .ensures, c .before .of-presses .ensures, c .before .before .retain2 .ensures, c .before .before .before .retain .ensures, entries-packed bindings)
 
 new-requires : tie.Need-new-requires
 new-requires c κs = search needs

@@ -1,6 +1,6 @@
 -- `PlatformInputRouter::release_view` meets its contract: the first press whose panel is closed decides what is taken, and whether it is listed.
 use mathlib.Core.Path.{sym, ap, _∙_}
-use Rattle.composition_state.specs.Errors.{isAccepted}
+use Rattle.records.specs.Errors.{isAccepted}
 use Rattle.input_router.specs.ViewReleases.{closedRefusal, releaseView}
 use borrow.Author.Needs.{needs}
 use Rattle.input_router.proofs.router.PlatformInputRouter.release_view.Statement.{statement}
@@ -27,7 +27,7 @@ view-part-requires-2 c κs = search needs
 returns : tie.Need-returns
 unfolding releaseView
 returns c =
-    let is = sym (c .before .before .is-accepted .ensures ∙ ap isAccepted (c .before .before .before .before .before .closed-refusal .ensures ∙ ap (closedRefusal (c .before .before .before .before .before .before .before .before .args .surfaces)) (c .before .before .before .before .before .before .first-closed .ensures))) ∙ c .before .if1 .taken in
+    let is = sym (c .before .before .is-accepted .ensures ∙ ap isAccepted (c .before .before .before .before .before .closed-refusal .ensures ∙ ap (closedRefusal (c .before .before .before .before .before .before .before .args .surfaces)) (c .before .before .before .before .before .before .first-closed .ensures))) ∙ c .before .if1 .taken in
     rw (c .view-part2 .ensures, c .before .before .before .with-bindings .ensures, c .before .before .before .before .view-part .ensures, c .before .before .before .before .before .closed-refusal .ensures, c .before .before .before .before .before .before .first-closed .ensures, is)
 
 new-requires : tie.Need-new-requires
@@ -36,7 +36,7 @@ new-requires c κs = search needs
 returns-2 : tie.Need-returns-2
 unfolding releaseView
 returns-2 c =
-    let is = sym (c .before .before .is-accepted .ensures ∙ ap isAccepted (c .before .before .before .before .before .closed-refusal .ensures ∙ ap (closedRefusal (c .before .before .before .before .before .before .before .before .args .surfaces)) (c .before .before .before .before .before .before .first-closed .ensures))) ∙ c .before .if1 .left in
+    let is = sym (c .before .before .is-accepted .ensures ∙ ap isAccepted (c .before .before .before .before .before .closed-refusal .ensures ∙ ap (closedRefusal (c .before .before .before .before .before .before .before .args .surfaces)) (c .before .before .before .before .before .before .first-closed .ensures))) ∙ c .before .if1 .left in
     rw (c .new .ensures, c .before .before .before .with-bindings .ensures, c .before .before .before .before .view-part .ensures, c .before .before .before .before .before .closed-refusal .ensures, c .before .before .before .before .before .before .first-closed .ensures, is)
 
 pub release-view-spec : {M : Type 1} → statement M

@@ -1,0 +1,22 @@
+-- `of_read` meets its contract: the parts of the answer that the call has, and blanks for the others.
+use borrow.Author.Needs.{needs}
+use Rattle.counter.proofs.answer.Answer.of_read.Statement.{statement}
+use Rattle.counter.proofs.answer.Answer.of_read.Tie as tie
+
+from-composition-requires : tie.Need-from-composition-requires
+from-composition-requires c κs = search needs
+
+nothing-requires : tie.Need-nothing-requires
+nothing-requires c κs = search needs
+
+no-report-requires : tie.Need-no-report-requires
+no-report-requires c κs = search needs
+
+nothing-requires-2 : tie.Need-nothing-requires-2
+nothing-requires-2 c κs = search needs
+
+returns : tie.Need-returns
+returns c = rw (c .nothing2 .ensures, c .before .no-report .ensures, c .before .before .nothing .ensures, c .before .before .before .from-composition .ensures)
+
+pub of-read-spec : {M : Type 1} → statement M
+of-read-spec = tie.close (tie.spec from-composition-requires nothing-requires no-report-requires nothing-requires-2 returns)

@@ -1,0 +1,3 @@
+pub mod CaptureLaws
+pub mod KeepLaws
+pub mod ReleaseLaws

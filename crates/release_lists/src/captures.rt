@@ -1,0 +1,78 @@
+// The list of captures that a device's loss ends.
+ghost use mathlib.Core.Path.{_≡_};
+ghost use mathlib.Core.List.{[], _++_};
+ghost use Prim.Native.Nat.{_+_, _≤_, _<_};
+ghost use lib.ListN.{length};
+ghost use Rattle.lists.specs.Tables.{entriesOf, packed, pushed};
+ghost use Rattle.maps.specs.Captures.{captures};
+ghost use Rattle.release_lists.specs.Captures.{captureList};
+use handles::GenerationalHandle;
+use maps::captures::Capture;
+use maps::captures::PointerCaptures;
+use maps::keys::CompositionPointerId;
+
+// Captures by view slot, then pointer: up to 32 in each of 16 views.
+pub struct CaptureList {
+    pub items: [Capture; 512],
+    pub len: usize,
+}
+
+impl CaptureList {
+    pub fn new() -> Self
+        ensures { λ r. ⌜ r ≡ packed captureList [] ⌝ }
+    {
+        let pointer = CompositionPointerId {
+            device: 0,
+            device_generation: 0,
+            contact: 0,
+        };
+        let surface = GenerationalHandle {
+            index: 0,
+            generation: 0,
+        };
+        let blank = Capture { pointer, surface };
+        Self {
+            items: [blank; 512],
+            len: 0,
+        }
+    }
+
+    // How many captures are listed: a stored count past the table is read as a full table.
+    pub fn count(self) -> usize
+        ensures { λ r. ⌜ r ≡ length (entriesOf captureList self) ⌝ }
+    {
+        let n = self.len;
+        if n < 512 {
+            return n;
+        }
+        512
+    }
+
+    fn push(self, entry: Capture) -> Self
+        requires { ⌜ self .len < 512 ⌝ }
+        ensures { λ r. ⌜ r ≡ pushed captureList self entry ⌝ }
+    {
+        let at = self.len;
+        let mut next = self;
+        next.items[at] = entry;
+        next.len = at + 1;
+        next
+    }
+
+    // The list with the entries of a map put after its own; a map has at most 32.
+    pub fn extend(self, from: PointerCaptures) -> Self
+        requires { ⌜ self ≡ packed captureList (entriesOf captureList self) ⌝ }
+        requires { ⌜ length (entriesOf captureList self) + 32 ≤ 512 ⌝ }
+        ensures { λ r. ⌜ (r ≡ packed captureList (entriesOf captureList self ++ entriesOf captures from)) × (length (entriesOf captures from) ≤ 32) ⌝ }
+    {
+        let mut next = self;
+        let n = from.count();
+        let mut i = 0;
+        while i < n {
+            let entry = from.entries[i];
+            next = next.push(entry);
+            i += 1;
+        }
+        next
+    }
+}
