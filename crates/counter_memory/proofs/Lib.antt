@@ -1,3 +1,4 @@
+pub mod ChoiceLaws
 pub mod FillLaws
 pub mod RoundLaws
 pub mod ClaimLaws

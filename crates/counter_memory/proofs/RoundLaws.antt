@@ -2,8 +2,6 @@
 use mathlib.Core.Path.{_≡_, refl}
 use mathlib.Core.List.{List, [], _∷_, map}
 use Rattle.geometry.specs.declared.metrics.ViewMetrics.{ViewMetrics}
-use Rattle.geometry.specs.declared.metrics.ViewVisibility.{ViewVisibility}
-use Rattle.geometry.specs.declared.metrics.ViewVisibility.the-variants.{Visible, Hidden, Suspended}
 use Rattle.geometry.specs.declared.rect.OptionalRect.{OptionalRect}
 use Rattle.geometry.specs.declared.rect.OptionalRect.the-variants as rect
 use Rattle.geometry.specs.declared.surface.SurfaceGeometry.{SurfaceGeometry}
@@ -14,20 +12,14 @@ use Rattle.maps.specs.declared.keys.BindingKey.{BindingKey}
 use Rattle.maps.specs.declared.keys.BindingKey.the-variants as key
 use Rattle.maps.specs.Keys.{bindingKey}
 use Rattle.composition_state.specs.declared.registry.CompositionRegistry.{CompositionRegistry}
-use Rattle.records.specs.declared.shortcut.ShortcutScope.{ShortcutScope}
-use Rattle.records.specs.declared.shortcut.ShortcutScope.the-variants.{View, Window, Session}
 use Rattle.records.specs.declared.shortcut.SlotShortcut.{SlotShortcut}
-use Rattle.records.specs.declared.surface.SurfaceInputPolicy.{SurfaceInputPolicy}
-use Rattle.records.specs.declared.surface.SurfaceInputPolicy.the-variants.{Observe, Passthrough, Interactive, Exclusive}
-use Rattle.records.specs.declared.surface.SurfaceKind.{SurfaceKind}
-use Rattle.records.specs.declared.surface.SurfaceKind.the-variants.{Game, Ui, Diagnostics}
 use Rattle.records.specs.declared.surface.SurfaceRecord.{SurfaceRecord}
 use Rattle.records.specs.declared.trace.ArbitrationEvent.{ArbitrationEvent}
 use Rattle.records.specs.declared.trace.ArbitrationEvent.the-variants.{Pointer, PointerStack, PointerFor, PointerStackFor, Keyboard, KeyboardFor, Gamepad, GamepadFor, Text, Shortcut, SystemShortcut}
 use Rattle.records.specs.declared.trace.CompositionTrace.{CompositionTrace}
 use Rattle.records.specs.declared.view.ViewRecord.{ViewRecord}
 use Rattle.input_router.specs.declared.router.PlatformInputRouter.{PlatformInputRouter}
-use Rattle.counter_memory.specs.Choices.{kindNumber, kindOf, policyNumber, policyOf, scopeNumber, scopeOf, visibilityNumber, visibilityOf}
+use Rattle.call_fields.proofs.ChoiceLaws.{surface-kind-back, policy-back, scope-back, visibility-back}
 use Rattle.counter_memory.specs.Optionals.{optionalHandleMemory, optionalHandleOf, optionalRectMemory, optionalRectOf}
 use Rattle.counter_memory.specs.Events.{eventMemory, eventOf}
 use Rattle.counter_memory.specs.Views.{metricsMemory, metricsOf, viewMemory, viewOf}
@@ -41,27 +33,6 @@ use Rattle.counter_memory.specs.Router.{routerMemory, routerOf}
 each-back : {A B : Type 0} (f : A → B) (g : B → A) → ((x : A) → g (f x) ≡ x) → (l : List A) → map g (map f l) ≡ l
 each-back f g h [] = refl
 each-back f g h (x ∷ l) = rw (h x, each-back f g h l)
-
-kind-back : (k : SurfaceKind) → kindOf (kindNumber k) ≡ k
-kind-back Game = refl
-kind-back Ui = refl
-kind-back Diagnostics = refl
-
-policy-back : (p : SurfaceInputPolicy) → policyOf (policyNumber p) ≡ p
-policy-back Observe = refl
-policy-back Passthrough = refl
-policy-back Interactive = refl
-policy-back Exclusive = refl
-
-scope-back : (s : ShortcutScope) → scopeOf (scopeNumber s) ≡ s
-scope-back View = refl
-scope-back Window = refl
-scope-back Session = refl
-
-visibility-back : (v : ViewVisibility) → visibilityOf (visibilityNumber v) ≡ v
-visibility-back Visible = refl
-visibility-back Hidden = refl
-visibility-back Suspended = refl
 
 optional-handle-back : (o : OptionalHandle) → optionalHandleOf (optionalHandleMemory o) ≡ o
 optional-handle-back handle.None = refl
@@ -99,7 +70,7 @@ geometry-back : (g : SurfaceGeometry) → geometryOf (geometryMemory g) ≡ g
 geometry-back g = rw (optional-rect-back (g .bounds), optional-rect-back (g .clip))
 
 surface-back : (s : SurfaceRecord) → surfaceOf (surfaceMemory s) ≡ s
-surface-back s = rw (kind-back (s .descriptor .kind), policy-back (s .descriptor .input), geometry-back (s .descriptor .geometry))
+surface-back s = rw (surface-kind-back (s .descriptor .kind), policy-back (s .descriptor .input), geometry-back (s .descriptor .geometry))
 
 shortcut-back : (s : SlotShortcut) → shortcutOf (shortcutMemory s) ≡ s
 shortcut-back s = rw (scope-back (s .registration .scope))

@@ -1,4 +1,3 @@
-pub mod Choices
 pub mod Optionals
 pub mod Events
 pub mod Views

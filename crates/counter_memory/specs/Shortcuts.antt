@@ -4,7 +4,7 @@ use Rattle.records.specs.declared.shortcut.Shortcuts.{Shortcuts}
 use Rattle.records.specs.declared.shortcut.SlotShortcut.{SlotShortcut}
 use Rattle.counter_memory.specs.declared.shortcuts.ShortcutsMemory.{ShortcutsMemory}
 use Rattle.counter_memory.specs.declared.shortcuts.SlotShortcutMemory.{SlotShortcutMemory}
-use Rattle.counter_memory.specs.Choices.{scopeNumber, scopeOf}
+use Rattle.call_fields.specs.PanelChoices.{scopeNumber, scopeOf}
 
 -- a registration beside its slot, with the scope as a number
 abbrev pub shortcutMemory : SlotShortcut → SlotShortcutMemory

@@ -6,7 +6,7 @@ use Rattle.records.specs.declared.view.ViewTable.{ViewTable}
 use Rattle.counter_memory.specs.declared.views.ViewMetricsMemory.{ViewMetricsMemory}
 use Rattle.counter_memory.specs.declared.views.ViewRecordMemory.{ViewRecordMemory}
 use Rattle.counter_memory.specs.declared.views.ViewTableMemory.{ViewTableMemory}
-use Rattle.counter_memory.specs.Choices.{visibilityNumber, visibilityOf}
+use Rattle.call_fields.specs.PanelChoices.{visibilityNumber, visibilityOf}
 use Rattle.counter_memory.specs.Optionals.{optionalHandleMemory, optionalHandleOf}
 
 -- the metrics, with the visibility as a number
