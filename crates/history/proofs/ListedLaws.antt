@@ -19,7 +19,7 @@ use Rattle.maps.specs.declared.bindings.Binding.{Binding}
 use Rattle.maps.specs.declared.captures.Capture.{Capture}
 use Rattle.composition_soundness.proofs.ListLaws.{all-as}
 use Rattle.release_lists.specs.Releases.{isOn, isNotBelow, byPanel, isListed, captureRelease, addCapture, addCaptures}
-use Rattle.release_lists.proofs.KeepLaws.{keep-in, all-kept}
+use Rattle.lists.proofs.KeepLaws.{keep-in, all-kept}
 use Rattle.release_lists.proofs.ReleaseLaws.{by-panel-least}
 use Rattle.book.specs.Book.{Held, isOnPanel}
 use Rattle.book.specs.Owed.{sameRelease, noneTwice, cancelOf, thenCaptures, panelPut, panelsOf, panelByPanel}

@@ -40,7 +40,7 @@ use Rattle.release_lists.specs.Releases.{releases, isOn, byPanel}
 use Rattle.input_router.specs.Releases.{isOfDevice, releaseSurface, releaseAll, withoutDevicePresses, withoutDevice}
 use Rattle.input_router.specs.ViewReleases.{kindOf, isClosed, pressOf, firstClosed, closedRefusal, isOfView, isTaken, releaseView}
 use Rattle.input_router.specs.Claims.{RouterClaims}
-use Rattle.release_lists.proofs.KeepLaws.{keep-in, keep-apart}
+use Rattle.lists.proofs.KeepLaws.{keep-in, keep-apart}
 use Rattle.release_lists.proofs.ReleaseLaws.{by-panel-length, by-panel-keeps, by-panel-ordered, presses-first, captures-listed}
 use Rattle.input_router.proofs.SoundLaws as sound
 

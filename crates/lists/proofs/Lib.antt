@@ -1,4 +1,5 @@
 pub mod ListLaws
+pub mod KeepLaws
 pub mod BelowLaws
 pub mod TableLaws
 pub mod OrderLaws

@@ -1,3 +1,2 @@
 pub mod CaptureLaws
-pub mod KeepLaws
 pub mod ReleaseLaws

@@ -25,7 +25,7 @@ use Rattle.maps.specs.declared.captures.Capture.{Capture}
 use Rattle.maps.proofs.MapTableLaws.{keys}
 use Rattle.release_lists.specs.declared.releases.Releases.{Releases}
 use Rattle.release_lists.specs.Releases.{releases, isOn, isNotBelow, IsLeast, placed, byPanel, inPanelOrder, isPair, isListed, captureRelease, addCapture, addCaptures}
-use Rattle.release_lists.proofs.KeepLaws.{keep-in, keep-apart, all-kept, all-implied, keep-all, all-keep, all-both}
+use Rattle.lists.proofs.KeepLaws.{keep-in, keep-apart, all-kept, all-implied, keep-all, all-keep, all-both}
 use Rattle.release_lists.proofs.releases.Releases as T
 use Rattle.release_lists.proofs.releases.Releases.Laws as T′
 

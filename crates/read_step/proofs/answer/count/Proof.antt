@@ -1,3 +1,4 @@
+-- `count` meets its contract: each part is the read-out of its name.
 use borrow.Author.Needs.{needs}
 use Rattle.read_step.proofs.answer.count.Statement.{statement}
 use Rattle.read_step.proofs.answer.count.Tie as tie

@@ -1,3 +1,4 @@
+-- `hits_if` meets its contract: the hits of an accepted test, and none with a refusal.
 use borrow.Author.Needs.{needs}
 use Rattle.read_step.proofs.hits.hits_if.Statement.{statement}
 use Rattle.read_step.proofs.hits.hits_if.Tie as tie

@@ -1,3 +1,4 @@
+-- `test` meets its contract: what the hit test wrote into the buffer, read as a table of hits.
 use Rattle.read_step.proofs.HitLaws.{tested}
 use borrow.Author.Needs.{needs}
 use Rattle.read_step.proofs.hits.test.Statement.{statement}

@@ -1,3 +1,4 @@
+-- `read` meets its contract: what is shown, with no hits beside it.
 use borrow.Author.Needs.{needs}
 use Rattle.read_step.proofs.steps.read.Statement.{statement}
 use Rattle.read_step.proofs.steps.read.Tie as tie

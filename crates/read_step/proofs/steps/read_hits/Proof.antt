@@ -1,3 +1,4 @@
+-- `read_hits` meets its contract: the refusal of the hit test, and its hits beside it.
 use borrow.Author.Needs.{needs}
 use Rattle.read_step.proofs.steps.read_hits.Statement.{statement}
 use Rattle.read_step.proofs.steps.read_hits.Tie as tie

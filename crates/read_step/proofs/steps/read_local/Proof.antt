@@ -1,3 +1,4 @@
+-- `read_local` meets its contract: both coordinates fit their type, so the point goes to the inverse as it is.
 use borrow.Author.Needs.{needs}
 use mir.Facts.{toZ-ofZ}
 use mir.Val.{SFits}

@@ -1,3 +1,4 @@
+-- `read_step` meets its contract: in each case the answer of the read-out is put into the definition.
 use Rattle.read_step.specs.Reads.{readStep}
 use borrow.Author.Needs.{needs}
 use Rattle.read_step.proofs.steps.read_step.Statement.{statement}
