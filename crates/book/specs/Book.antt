@@ -3,22 +3,27 @@ use Prim.Native.Nat.{ℕ}
 use mathlib.Core.Bool.{Bool, false, not, _&&_}
 use mathlib.Core.List.{List, [], _∷_}
 use mathlib.Core.Option.{Option, none, some}
+use lib.Dec.{eqb}
 use Rattle.lists.specs.Lists.{keep, first}
 use Rattle.lists.specs.Maps.{insert, remove}
 use Rattle.lists.specs.Orders.{lexLt}
 use Rattle.handles.specs.declared.GenerationalHandle.{GenerationalHandle}
 use Rattle.handles.specs.declared.OptionalHandle.{OptionalHandle}
-use Rattle.handles.specs.Handles.{sameHandle, handleLt}
 use Rattle.maps.specs.declared.bindings.Binding.{Binding}
 use Rattle.maps.specs.declared.captures.Capture.{Capture}
 use Rattle.maps.specs.declared.keys.BindingKey.{BindingKey}
 use Rattle.maps.specs.declared.keys.CompositionPointerId.{CompositionPointerId}
 use Rattle.maps.specs.declared.keys.InputDeviceId.{InputDeviceId}
-use Rattle.maps.specs.declared.keys.MapKey.{MapKey}
-use Rattle.maps.specs.Bindings.{keyOfBinding}
-use Rattle.maps.specs.Captures.{captureKey}
-use Rattle.maps.specs.Keys.{bindingKey, pointerKey, keyLt, keySame, deviceSame}
 use Rattle.records.specs.declared.trace.InputDelivery.{InputDelivery}
+use Rattle.calls.specs.declared.call.Call.{Call}
+use Rattle.calls.specs.declared.call.Lists.{Lists}
+use Rattle.book.specs.Ids.{isSameHandle, handleBefore, isSameDevice, pointerDevice, pressDevice, isSamePointer, pointerBefore, isSamePress, pressBefore}
+
+-- ---- what the book is fed
+-- a call, with what was handed in beside it
+pub record Asked : Type 0 where
+  pub call : Call
+  pub lists : Lists
 
 -- "The book is fed arguments and answers (number, handle, consumer, deliveries), never releases or tables."
 pub record Told : Type 0 where
@@ -27,6 +32,11 @@ pub record Told : Type 0 where
   pub consumer : OptionalHandle
   pub deliveries : List InputDelivery
 
+-- "0 is accepted": every other number is a refusal
+abbrev pub isRefused : Told → Bool
+isRefused a = not (eqb (a .number) 0)
+
+-- ---- what it keeps
 -- a capture in a view
 pub record Held : Type 0 where
   pub view : GenerationalHandle
@@ -38,7 +48,7 @@ pub record Home : Type 0 where
   pub view : GenerationalHandle
 
 pub record Book : Type 0 where
-  -- the open presses, each with the panel that took it last: pointers, keys, gamepads, each by key
+  -- the open presses, each with the panel that took it last: pointers, keys, gamepads
   pub presses : List Binding
   -- the captures, by view and pointer
   pub captures : List Held
@@ -64,67 +74,72 @@ viewOfHome (some x) = some (x .view)
 
 -- the view that a panel was attached to
 unfoldable pub homeOf : GenerationalHandle → List Home → Option GenerationalHandle
-homeOf h l = viewOfHome (first (λ x. sameHandle h (x .surface)) l)
+homeOf h l = viewOfHome (first (λ x. isSameHandle h (x .surface)) l)
 
 abbrev pub isView : GenerationalHandle → Option GenerationalHandle → Bool
 isView view none = false
-isView view (some v) = sameHandle view v
+isView view (some v) = isSameHandle view v
 
-abbrev pub attached : GenerationalHandle → GenerationalHandle → Book → Book
-attached h view b = withHomes (record { surface = h; view = view } ∷ b .homes) b
+-- "Attach notes the view."
+abbrev pub withHome : GenerationalHandle → GenerationalHandle → Book → Book
+withHome h view b = withHomes (record { surface = h; view = view } ∷ b .homes) b
 
 -- ---- captures
-abbrev pub heldKey : Held → GenerationalHandle × MapKey
-heldKey x = (x .view, captureKey (x .capture))
+-- "captures by view slot and pointer"
+abbrev pub heldPlace : Held → GenerationalHandle × CompositionPointerId
+heldPlace x = (x .view, x .capture .pointer)
 
--- by view, then by pointer
-abbrev pub heldLt : GenerationalHandle × MapKey → GenerationalHandle × MapKey → Bool
-heldLt = lexLt sameHandle handleLt keyLt
+abbrev pub placeBefore : GenerationalHandle × CompositionPointerId → GenerationalHandle × CompositionPointerId → Bool
+placeBefore = lexLt isSameHandle handleBefore pointerBefore
 
-abbrev pub held : GenerationalHandle → CompositionPointerId → GenerationalHandle → Held
-held view p h = record { view = view; capture = record { pointer = p; surface = h } }
+abbrev pub captureIn : GenerationalHandle → CompositionPointerId → GenerationalHandle → Held
+captureIn view p h = record { view = view; capture = record { pointer = p; surface = h } }
 
 -- captures of a device, of a view, of a panel, and of a panel's pointer
 abbrev pub isHeldByDevice : InputDeviceId → Held → Bool
-isHeldByDevice d x = deviceSame (captureKey (x .capture)) d
+isHeldByDevice d x = isSameDevice (pointerDevice (x .capture .pointer)) d
 
 abbrev pub isHeldInView : GenerationalHandle → Held → Bool
-isHeldInView view x = sameHandle view (x .view)
+isHeldInView view x = isSameHandle view (x .view)
 
 abbrev pub isHeldOnPanel : GenerationalHandle → Held → Bool
-isHeldOnPanel h x = sameHandle h (x .capture .surface)
+isHeldOnPanel h x = isSameHandle h (x .capture .surface)
 
 abbrev pub isHeldBoth : CompositionPointerId → GenerationalHandle → Held → Bool
-isHeldBoth p h x = keySame (pointerKey p) (captureKey (x .capture)) && isHeldOnPanel h x
+isHeldBoth p h x = isSamePointer p (x .capture .pointer) && isHeldOnPanel h x
 
--- "Capture gives the panel the pointer in the panel's view"
-abbrev pub capturedIn : Option GenerationalHandle → CompositionPointerId → GenerationalHandle → Book → Book
-capturedIn none p h b = b
-capturedIn (some view) p h b = withCaptures (insert heldKey heldLt (held view p h) (b .captures)) b
+-- "Capture gives the panel the pointer in the panel's view"; a panel without a view was never attached
+abbrev pub withCaptureIn : Option GenerationalHandle → CompositionPointerId → GenerationalHandle → Book → Book
+withCaptureIn none p h b = b
+withCaptureIn (some view) p h b = withCaptures (insert heldPlace placeBefore (captureIn view p h) (b .captures)) b
 
-unfoldable pub captured : CompositionPointerId → GenerationalHandle → Book → Book
-captured p h b = capturedIn (homeOf h (b .homes)) p h b
+unfoldable pub withCapture : CompositionPointerId → GenerationalHandle → Book → Book
+withCapture p h b = withCaptureIn (homeOf h (b .homes)) p h b
 
-unfoldable pub dropCaptures : (Held → Bool) → Book → Book
-dropCaptures p b = withCaptures (keep (λ x. not (p x)) (b .captures)) b
+unfoldable pub withoutCaptures : (Held → Bool) → Book → Book
+withoutCaptures p b = withCaptures (keep (λ x. not (p x)) (b .captures)) b
 
 -- ---- presses
+abbrev pub keyOf : Binding → BindingKey
+keyOf x = x .key
+
 -- presses of a device id (value and generation), of a panel, of a view's panels
 abbrev pub isOfDevice : InputDeviceId → Binding → Bool
-isOfDevice d x = deviceSame (keyOfBinding x) d
+isOfDevice d x = isSameDevice (pressDevice (x .key)) d
 
 abbrev pub isOnPanel : GenerationalHandle → Binding → Bool
-isOnPanel h x = sameHandle h (x .surface)
+isOnPanel h x = isSameHandle h (x .surface)
 
 abbrev pub isInView : List Home → GenerationalHandle → Binding → Bool
 isInView homes view x = isView view (homeOf (x .surface) homes)
 
--- the press is opened, or moved to the new receiver
-unfoldable pub opened : BindingKey → GenerationalHandle → Book → Book
-opened key h b = withPresses (insert keyOfBinding keyLt (record { key = key; surface = h }) (b .presses)) b
+-- "opens the press or moves it to the new receiver"
+unfoldable pub withPress : BindingKey → GenerationalHandle → Book → Book
+withPress key h b = withPresses (insert keyOf pressBefore (record { key = key; surface = h }) (b .presses)) b
 
-unfoldable pub ended : BindingKey → Book → Book
-ended key b = withPresses (remove keyOfBinding keySame (bindingKey key) (b .presses)) b
+-- "ends it"
+unfoldable pub withoutPress : BindingKey → Book → Book
+withoutPress key b = withPresses (remove keyOf isSamePress key (b .presses)) b
 
-unfoldable pub endPresses : (Binding → Bool) → Book → Book
-endPresses p b = withPresses (keep (λ x. not (p x)) (b .presses)) b
+unfoldable pub withoutPresses : (Binding → Bool) → Book → Book
+withoutPresses p b = withPresses (keep (λ x. not (p x)) (b .presses)) b

@@ -1,4 +1,6 @@
+pub mod Ids
 pub mod Book
-pub mod Notes
 pub mod Owed
+pub mod Notes
+pub mod Examples
 pub mod Claims

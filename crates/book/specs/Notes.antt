@@ -1,22 +1,19 @@
--- Document 01, Book: what a call with its answer changes in the book. "Refused calls and those not named here change nothing."
+-- Document 01, Presses and Book: what a call with its answer changes in the book.
 use mathlib.Core.Bool.{Bool, true, false, not, cond}
 use mathlib.Core.List.{List, []}
 use mathlib.Core.Option.{Option, none, some}
-use lib.Dec.{eqb}
 use Rattle.lists.specs.Lists.{first}
 use Rattle.handles.specs.declared.GenerationalHandle.{GenerationalHandle}
 use Rattle.handles.specs.declared.OptionalHandle.{OptionalHandle}
 use Rattle.handles.specs.declared.OptionalHandle.the-variants as handle
+use Rattle.maps.specs.declared.bindings.Binding.{Binding}
 use Rattle.maps.specs.declared.keys.BindingKey.{BindingKey}
 use Rattle.maps.specs.declared.keys.BindingKey.the-variants as press
 use Rattle.maps.specs.declared.keys.CompositionPointerId.{CompositionPointerId}
 use Rattle.maps.specs.declared.keys.InputDeviceId.{InputDeviceId}
 use Rattle.records.specs.declared.trace.InputDelivery.{InputDelivery}
-use Rattle.input_events.specs.declared.event.GamepadInput.{GamepadInput}
-use Rattle.input_events.specs.declared.event.KeyInput.{KeyInput}
 use Rattle.input_events.specs.declared.event.KeyPhase.{KeyPhase}
 use Rattle.input_events.specs.declared.event.KeyPhase.the-variants as K
-use Rattle.input_events.specs.declared.event.PlatformInputEvent.{PlatformInputEvent}
 use Rattle.input_events.specs.declared.event.PlatformInputPayload.{PlatformInputPayload}
 use Rattle.input_events.specs.declared.event.PlatformInputPayload.the-variants as payload
 use Rattle.input_events.specs.declared.event.PointerPhase.{PointerPhase}
@@ -31,9 +28,17 @@ use Rattle.calls.specs.declared.call.PanelCall.{PanelCall}
 use Rattle.calls.specs.declared.call.PanelCall.the-variants as panel
 use Rattle.calls.specs.declared.call.RouterCall.{RouterCall}
 use Rattle.calls.specs.declared.call.RouterCall.the-variants as router
-use Rattle.book.specs.Book.{Told, Book, withPresses, attached, captured, dropCaptures, isHeldByDevice, isHeldInView, isHeldOnPanel, isHeldBoth, isOfDevice, isOnPanel, isInView, opened, ended, endPresses}
+use Rattle.book.specs.Ids.{isSamePress}
+use Rattle.book.specs.Book.{Asked, Told, isRefused, Book, withHome, withCapture, withoutCaptures, isHeldByDevice, isHeldInView, isHeldOnPanel, isHeldBoth, withPress, withoutPress}
+use Rattle.book.specs.Owed.{concern, withoutConcerned}
 
--- ---- Presses
+-- ---- Presses: what an accepted event does to the press of its pointer, key or gamepad
+pub data Change : Type 0 where
+  -- the press is opened, or moved to the new receiver
+  opens : BindingKey → GenerationalHandle → Change
+  ends : BindingKey → Change
+  leaves : Change
+
 abbrev pub panelOf : Option InputDelivery → OptionalHandle
 panelOf none = handle.None
 panelOf (some d) = handle.Some (d .surface)
@@ -43,61 +48,77 @@ abbrev pub receiver : OptionalHandle → List InputDelivery → OptionalHandle
 receiver handle.None l = panelOf (first (λ d. not (d .observed)) l)
 receiver (handle.Some h) l = handle.Some h
 
--- "with a receiver opens the press or moves it to the new receiver .. Without a receiver an older press is unchanged."
-abbrev pub openedFor : OptionalHandle → BindingKey → Book → Book
-openedFor handle.None key b = b
-openedFor (handle.Some h) key b = opened key h b
+-- "with a receiver opens the press or moves it .. Without a receiver an older press is unchanged."
+abbrev pub opensFor : OptionalHandle → BindingKey → Change
+opensFor handle.None key = leaves
+opensFor (handle.Some h) key = opens key h
 
 -- "A pointer Down .. Up, Cancel .. ends it"
-abbrev pub notedPointer : PointerPhase → BindingKey → OptionalHandle → Book → Book
-notedPointer P.Down key to b = openedFor to key b
-notedPointer P.Move key to b = b
-notedPointer P.Up key to b = ended key b
-notedPointer P.Cancel key to b = ended key b
+abbrev pub pointerChange : PointerPhase → BindingKey → OptionalHandle → Change
+pointerChange P.Down key to = opensFor to key
+pointerChange P.Move key to = leaves
+pointerChange P.Up key to = ends key
+pointerChange P.Cancel key to = ends key
 
 -- "a key Down without repeat"
-abbrev pub notedKey : KeyPhase → Bool → BindingKey → OptionalHandle → Book → Book
-notedKey K.Down true key to b = b
-notedKey K.Down false key to b = openedFor to key b
-notedKey K.Up repeat key to b = ended key b
+abbrev pub keyChange : KeyPhase → Bool → BindingKey → OptionalHandle → Change
+keyChange K.Down true key to = leaves
+keyChange K.Down false key to = opensFor to key
+keyChange K.Up repeat key to = ends key
 
--- "A disconnected snapshot is a gamepad's Up and not its device's disconnect."
-abbrev pub notedSnapshot : Bool → BindingKey → OptionalHandle → Book → Book
-notedSnapshot true key to b = openedFor to key b
-notedSnapshot false key to b = ended key b
+-- "a connected snapshot .. A disconnected snapshot is a gamepad's Up and not its device's disconnect."
+abbrev pub snapshotChange : Bool → BindingKey → OptionalHandle → Change
+snapshotChange true key to = opensFor to key
+snapshotChange false key to = ends key
 
--- "a disconnect or a view's loss then drops its captures, listed or not"
-abbrev pub withoutDevice : InputDeviceId → Book → Book
-withoutDevice d b = dropCaptures (isHeldByDevice d) (endPresses (isOfDevice d) b)
+unfoldable pub payloadChange : PlatformInputPayload → InputDeviceId → OptionalHandle → Change
+payloadChange (payload.Pointer p) d to =
+    pointerChange (p .phase) (press.Pointer (record { device = d .value; «device_generation» = d .generation; contact = p .contact })) to
+payloadChange (payload.Wheel w) d to = leaves
+payloadChange (payload.Key k) d to = keyChange (k .phase) (k .repeat) (press.Key (record { device = d; «physical_key» = k .«physical_key» })) to
+payloadChange (payload.Shortcut s) d to = leaves
+payloadChange (payload.Text t) d to = leaves
+payloadChange (payload.Composition c) d to = leaves
+payloadChange (payload.GamepadSnapshot g) d to = snapshotChange (g .connected) (press.Gamepad d) to
+payloadChange (payload.FocusChanged focused) d to = leaves
+payloadChange (payload.VisibilityChanged visible) d to = leaves
+payloadChange payload.DeviceDisconnected d to = leaves
 
-abbrev pub withoutView : GenerationalHandle → Book → Book
-withoutView view b = dropCaptures (isHeldInView view) (endPresses (isInView (b .homes) view) b)
+unfoldable pub routerChange : RouterCall → Told → Change
+routerChange (router.Route e) a = payloadChange (e .payload) (e .header .device) (receiver (a .consumer) (a .deliveries))
+routerChange (router.ReleaseSurface h) a = leaves
+routerChange router.ReleaseAll a = leaves
 
--- of a view's focus or visibility the loss counts, not the gain
-abbrev pub notedSight : Bool → GenerationalHandle → Book → Book
-notedSight true view b = b
-notedSight false view b = withoutView view b
+unfoldable pub change : Call → Told → Change
+change (Panel call) a = leaves
+change (Input call) a = leaves
+change (ReleaseDevice x) a = leaves
+change (Shortcut call) a = leaves
+change (Arbitrate x) a = leaves
+change (Close call) a = leaves
+change (Router call) a = routerChange call a
+change (Read call) a = leaves
 
-unfoldable pub notedPayload : PlatformInputPayload → InputDeviceId → GenerationalHandle → OptionalHandle → Book → Book
-notedPayload (payload.Pointer p) d view to b = notedPointer (p .phase) (press.Pointer (record { device = d .value; «device_generation» = d .generation; contact = p .contact })) to b
-notedPayload (payload.Wheel w) d view to b = b
-notedPayload (payload.Key k) d view to b = notedKey (k .phase) (k .repeat) (press.Key (record { device = d; «physical_key» = k .«physical_key» })) to b
-notedPayload (payload.Shortcut s) d view to b = b
-notedPayload (payload.Text t) d view to b = b
-notedPayload (payload.Composition c) d view to b = b
-notedPayload (payload.GamepadSnapshot g) d view to b = notedSnapshot (g .connected) (press.Gamepad d) to b
-notedPayload (payload.FocusChanged focused) d view to b = notedSight focused view b
-notedPayload (payload.VisibilityChanged visible) d view to b = notedSight visible view b
-notedPayload payload.DeviceDisconnected d view to b = withoutDevice d b
+unfoldable pub changed : Change → Book → Book
+changed (opens key h) b = withPress key h b
+changed (ends key) b = withoutPress key b
+changed leaves b = b
 
-abbrev pub notedEvent : PlatformInputEvent → Told → Book → Book
-notedEvent e a b = notedPayload (e .payload) (e .header .device) (e .header .view) (receiver (a .consumer) (a .deliveries)) b
+-- the press of a key is the one that is opened, moved or ended
+abbrev pub isChanged : Change → BindingKey → Bool
+isChanged (opens key h) k = isSamePress key k
+isChanged (ends key) k = isSamePress key k
+isChanged leaves k = false
 
--- ---- the calls
+-- whether a call with its answer opens, moves or ends the press of a key; a refused one does not
+unfoldable pub changes : Asked → Told → BindingKey → Bool
+changes x a k = cond (isRefused a) false (isChanged (change (x .call) a) k)
+
+-- ---- Book: captures and panels' views
 -- "Attach notes the view."
 abbrev pub notedAttach : OptionalHandle → GenerationalHandle → Book → Book
 notedAttach handle.None view b = b
-notedAttach (handle.Some h) view b = attached h view b
+notedAttach (handle.Some h) view b = withHome h view b
 
 unfoldable pub notedPanel : PanelCall → OptionalHandle → Book → Book
 notedPanel panel.CreateWindow made b = b
@@ -109,42 +130,42 @@ notedPanel (panel.AttachSurface d) made b = notedAttach made (d .view) b
 notedPanel (panel.UpdateSurfaceGeometry a) made b = b
 notedPanel (panel.UpdateSurfaceInputPolicy a) made b = b
 
--- the pointer of a capture or release that names none: device 1, generation 1, contact 0
+-- PRIMARY, the pointer of a capture or release that names none: device 1, generation 1, contact 0
 abbrev pub primaryPointer : CompositionPointerId
 primaryPointer = record { device = 1; «device_generation» = 1; contact = 0 }
 
--- "Capture gives the panel the pointer in the panel's view; release of a pointer drops it if that panel has it; .. suspend .. drop the captures of the .. view"
+-- "Capture gives the panel the pointer in the panel's view; release of a pointer drops it if that panel has it; .. suspend .. drop the
+-- captures of the .. view"
 unfoldable pub notedInput : InputCall → Book → Book
 notedInput (input.SetFocus a) b = b
-notedInput (input.CapturePointer a) b = captured primaryPointer (a .handle) b
-notedInput (input.CapturePointerFor a) b = captured (a .pointer) (a .surface) b
-notedInput (input.ReleasePointer a) b = dropCaptures (isHeldBoth primaryPointer (a .handle)) b
-notedInput (input.ReleasePointerFor a) b = dropCaptures (isHeldBoth (a .pointer) (a .surface)) b
+notedInput (input.CapturePointer a) b = withCapture primaryPointer (a .handle) b
+notedInput (input.CapturePointerFor a) b = withCapture (a .pointer) (a .surface) b
+notedInput (input.ReleasePointer a) b = withoutCaptures (isHeldBoth primaryPointer (a .handle)) b
+notedInput (input.ReleasePointerFor a) b = withoutCaptures (isHeldBoth (a .pointer) (a .surface)) b
 notedInput (input.BeginIme a) b = b
 notedInput (input.EndIme a) b = b
-notedInput (input.SuspendViewInput a) b = dropCaptures (isHeldInView (a .handle)) b
+notedInput (input.SuspendViewInput a) b = withoutCaptures (isHeldInView (a .handle)) b
 
 -- "a panel's close drop the captures of the .. panel"
 unfoldable pub notedClose : CloseCall → Book → Book
-notedClose (close.CloseSurface h) b = dropCaptures (isHeldOnPanel h) b
+notedClose (close.CloseSurface h) b = withoutCaptures (isHeldOnPanel h) b
 notedClose close.Shutdown b = b
 
--- "Being listed on .. a router release ends it too."
-unfoldable pub notedRouter : RouterCall → Told → Book → Book
-notedRouter (router.Route e) a b = notedEvent e a b
-notedRouter (router.ReleaseSurface h) a b = endPresses (isOnPanel h) b
-notedRouter router.ReleaseAll a b = withPresses [] b
+-- "device captures .. drop the captures of the device"; calls that are not named change nothing
+unfoldable pub registered : Call → Told → Book → Book
+registered (Panel call) a b = notedPanel call (a .handle) b
+registered (Input call) a b = notedInput call b
+registered (ReleaseDevice x) a b = withoutCaptures (isHeldByDevice (record { value = x .device; generation = x .«device_generation» })) b
+registered (Shortcut call) a b = b
+registered (Arbitrate x) a b = b
+registered (Close call) a b = notedClose call b
+registered (Router call) a b = b
+registered (Read call) a b = b
 
-unfoldable pub noted : Call → Told → Book → Book
-noted (Panel call) a b = notedPanel call (a .handle) b
-noted (Input call) a b = notedInput call b
-noted (ReleaseDevice x) a b = dropCaptures (isHeldByDevice (record { value = x .device; generation = x .«device_generation» })) b
-noted (Shortcut call) a b = b
-noted (Arbitrate x) a b = b
-noted (Close call) a b = notedClose call b
-noted (Router call) a b = notedRouter call a b
-noted (Read call) a b = b
+-- ---- a call with its answer: what it registers, the press that it changes, and what it concerns, which is listed and so ends
+unfoldable pub noted : Asked → Told → Book → Book
+noted x a b = withoutConcerned (concern (x .call)) (changed (change (x .call) a) (registered (x .call) a b))
 
 -- "Refused calls .. change nothing."
-unfoldable pub note : Call → Told → Book → Book
-note c a b = cond (eqb (a .number) 0) (noted c a b) b
+unfoldable pub note : Asked → Told → Book → Book
+note x a b = cond (isRefused a) b (noted x a b)

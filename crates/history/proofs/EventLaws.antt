@@ -3,6 +3,7 @@ use mathlib.Core.Path.{_≡_, refl, sym, ap, _∙_, subst}
 use mathlib.Core.Bool.{true, false}
 use mathlib.Core.List.{[]}
 use mathlib.Core.Option.{none}
+use Rattle.lists.specs.Tables.{entriesOf}
 use Rattle.lists.proofs.ListLaws.{by-test}
 use Rattle.lists.proofs.TableLaws.{entries-packed}
 use Rattle.handles.specs.declared.GenerationalHandle.{GenerationalHandle}
@@ -11,6 +12,7 @@ use Rattle.handles.specs.declared.OptionalHandle.the-variants.{Some}
 use Rattle.records.specs.declared.error.Outcome.{Outcome}
 use Rattle.records.specs.declared.error.Outcome.the-variants as composition
 use Rattle.composition_state.specs.declared.registry.CompositionRegistry.{CompositionRegistry}
+use Rattle.records.specs.Traces.{deliveries}
 use Rattle.composition_arbitration.specs.declared.arbitrate.Arbitrated.{Arbitrated}
 use Rattle.composition_arbitration.specs.Arbitration.{arbitrated}
 use Rattle.composition_arbitration.proofs.CallClaimLaws as arbitration
@@ -36,21 +38,21 @@ use Rattle.input_route.specs.Route.{heldFor, hitsFor, tracked, arbitratedAfter,
 use Rattle.calls.specs.declared.call.Call.the-variants.{Router}
 use Rattle.calls.specs.declared.call.Lists.{Lists}
 use Rattle.calls.specs.declared.call.RouterCall.the-variants.{Route}
-use Rattle.book.specs.Book.{Book}
-use Rattle.book.specs.Notes.{notedPayload, notedRouter, noted}
-use Rattle.book.specs.Owed.{noneTwice, owedPayload, owedRouter, owedOnce}
+use Rattle.book.specs.Book.{Told, Book}
+use Rattle.book.specs.Notes.{receiver, payloadChange, routerChange, change}
+use Rattle.book.specs.Owed.{nothing, payloadConcern, routerConcern, concern, isSamePressOf, isSameRelease, noneTwice, withoutConcerned}
 use Rattle.registry_book.specs.Agreement.{isOpen}
 use Rattle.registry_book.proofs.ClaimLaws as registry
 use Rattle.counter.specs.declared.step.Counter.{Counter}
 use Rattle.counter.specs.Step.{routerStep, stepped}
 use Rattle.history.proofs.SafeLaws.{Safe, recorded-room, checked}
-use Rattle.history.proofs.JoinLaws.{Joined, accepted}
+use Rattle.history.proofs.JoinLaws.{Joined, accepted, nothing-owed, nothing-twice}
 use Rattle.history.proofs.RegistryLaws.{same-quiet, follow, Goes}
-use Rattle.history.proofs.RouteLaws.{at, routeEntry, RouteGoes, route-refused, device-seen, view-seen}
+use Rattle.history.proofs.RouteLaws.{at, routeEntry, RouteGoes, route-refused, route-noted, device-seen, view-seen}
 use Rattle.history.proofs.LossLaws.{disconnect-goes, loss-goes}
-use Rattle.history.proofs.TrackLaws.{payload-noted, payload-owes, receiver-is, receiver-open, tracked-joined}
+use Rattle.history.proofs.TrackLaws.{changeFor, payload-changes, payload-concerns, receiver-is, receiver-open, tracked-joined}
 
-module _ (r : CompositionRegistry) (t : PlatformInputRouter) (b : Book) (u : Undamaged r) (s : isRouterSound t ≡ true) (j : Joined none (at r t) b) where
+module _ (l : Lists) (r : CompositionRegistry) (t : PlatformInputRouter) (b : Book) (u : Undamaged r) (s : isRouterSound t ≡ true) (j : Joined none (at r t) b) where
   -- ---- an event that is arbitrated
   module _ (e : PlatformInputEvent) (here : isDisconnect (e .payload) ≡ false) (seen : isLoss (e .payload) ≡ false) (room : effectRefusal t (effectOf e) ≡ Accepted) where
     abbrev answer : Arbitrated
@@ -64,23 +66,34 @@ module _ (r : CompositionRegistry) (t : PlatformInputRouter) (b : Book) (u : Und
         (λ h k. registry.claims .consumed r (e .header .view) h (arbitrationEvent e (heldFor t e)) (hitsFor r e) u q k)
         (registry.claims .delivered r (e .header .view) (arbitrationEvent e (heldFor t e)) (hitsFor r e) u q)
 
-    arbitrated-after : (o : Outcome) → answer .outcome ≡ o → RouteGoes b e (arbitratedAfter answer t e o)
-    unfolding owedOnce owedRouter noted notedRouter noneTwice
+    -- it concerns nothing, and its change of a press is the router's
+    idle : concern (Router (Route e)) ≡ nothing
+    unfolding concern routerConcern
+    idle = payload-concerns (e .header .device) (e .header .view) (e .payload) here seen
+
+    same-change : (a : Told) → a .consumer ≡ answer .result .«consumed_by» → a .deliveries ≡ entriesOf deliveries (answer .result .deliveries) → change (Router (Route e)) a ≡ changeFor (effectOf e) to
+    unfolding change routerChange
+    same-change a c d =
+        (λ i. payloadChange (e .payload) (e .header .device) (receiver (c i) (d i)))
+        ∙ ap (payloadChange (e .payload) (e .header .device)) (receiver-is (answer .result .«consumed_by») (answer .result .deliveries))
+        ∙ payload-changes (e .header .device) (e .payload) to
+
+    arbitrated-after : (o : Outcome) → answer .outcome ≡ o → RouteGoes l b e (arbitratedAfter answer t e o)
+    unfolding noneTwice withoutConcerned
     arbitrated-after composition.Accepted q a =
-        let f = registry.claims .arbitrate r b (e .header .view) (arbitrationEvent e (heldFor t e)) (hitsFor r e) u (j .agrees) q in
+        let f = registry.claims .arbitrate r b (e .header .view) (arbitrationEvent e (heldFor t e)) (hitsFor r e) u (j .shared .agrees) q in
         let after = answer .registry in
-        let notes = ap (λ (x : OptionalHandle). notedPayload (e .payload) (e .header .device) (e .header .view) x b) (receiver-is (answer .result .«consumed_by») (answer .result .deliveries))
-        ∙ payload-noted (e .header .device) (e .header .view) b (e .payload) to here seen in
-        accepted (routeEntry e (arbitratedAfter answer t e composition.Accepted)) b (at after (tracked t (effectOf e) to)) refl
-        (entries-packed releases [] ∙ sym (payload-owes (e .header .device) (e .header .view) b (e .payload) here seen))
-        (ap noneTwice (entries-packed releases []))
-        (subst (Joined none (at after (tracked t (effectOf e) to))) (sym notes)
-        (tracked-joined after t b s (follow (at r t) b b after j f (same-quiet b (j .captures-rise))) (effectOf e) to room (λ h k. f .keeps .stays h (live-receiver q h k) .0)))
+        let x = routeEntry l e (arbitratedAfter answer t e composition.Accepted) in
+        accepted x b (at after (tracked t (effectOf e) to)) refl
+        (nothing-owed x b (concern (Router (Route e))) idle (entries-packed releases [])) (ap (noneTwice isSameRelease) (entries-packed releases []))
+        (nothing-twice isSamePressOf b (concern (Router (Route e))) idle)
+        (subst (Joined none (at after (tracked t (effectOf e) to))) (sym (route-noted l e _ b nothing (changeFor (effectOf e) to) idle (same-change _ refl refl)))
+        (tracked-joined after t b s (follow (at r t) b b after j f (same-quiet b (j .shared .captures-rise))) (effectOf e) to room (λ h k. f .keeps .stays h (live-receiver q h k) .0)))
     arbitrated-after (composition.Refused x) q a =
-        route-refused b e (error.Composition x) (answer .registry) t
+        route-refused l b e (error.Composition x) (answer .registry) t
         (subst (λ (after : CompositionRegistry). Joined none (at after t) b) (sym (arbitration.claims .refused r (e .header .view) (arbitrationEvent e (heldFor t e)) (hitsFor r e) x q)) j) a
 
-    arbitration-goes : RouteGoes b e (routedArbitration r t e)
+    arbitration-goes : RouteGoes l b e (routedArbitration r t e)
     unfolding routedArbitration
     arbitration-goes = arbitrated-after (answer .outcome) refl
 
@@ -89,8 +102,8 @@ module _ (r : CompositionRegistry) (t : PlatformInputRouter) (b : Book) (u : Und
     abbrev event : PlatformInputPayload → PlatformInputEvent
     event p = record { header = h; payload = p }
 
-    payload-goes : (p : PlatformInputPayload) → eventRefusal (r .views) (event p) ≡ Accepted → effectRefusal t (effectOf (event p)) ≡ Accepted → RouteGoes b (event p) (routedPayload r t (event p))
-    unfolding routedPayload isDisconnect isLoss owedRouter owedPayload notedRouter notedPayload
+    payload-goes : (p : PlatformInputPayload) → eventRefusal (r .views) (event p) ≡ Accepted → effectRefusal t (effectOf (event p)) ≡ Accepted → RouteGoes l b (event p) (routedPayload r t (event p))
+    unfolding routedPayload isDisconnect isLoss concern routerConcern payloadConcern change routerChange payloadChange
     payload-goes (Pointer p) c room = arbitration-goes (event (Pointer p)) refl refl room
     payload-goes (Wheel w) c room = arbitration-goes (event (Wheel w)) refl refl room
     payload-goes (Key k) c room = arbitration-goes (event (Key k)) refl refl room
@@ -99,26 +112,26 @@ module _ (r : CompositionRegistry) (t : PlatformInputRouter) (b : Book) (u : Und
     payload-goes (Composition x) c room = arbitration-goes (event (Composition x)) refl refl room
     payload-goes (GamepadSnapshot g) c room = arbitration-goes (event (GamepadSnapshot g)) refl refl room
     payload-goes (FocusChanged true) c room = arbitration-goes (event (FocusChanged true)) refl refl room
-    payload-goes (FocusChanged false) c room = loss-goes r t b u s j (event (FocusChanged false)) (h .view) (view-seen r (event (FocusChanged false)) c) refl (λ a. refl)
+    payload-goes (FocusChanged false) c room = loss-goes l r t b u s j (event (FocusChanged false)) (λ a. refl) (h .view) (view-seen r (event (FocusChanged false)) c) refl
     payload-goes (VisibilityChanged true) c room = arbitration-goes (event (VisibilityChanged true)) refl refl room
-    payload-goes (VisibilityChanged false) c room = loss-goes r t b u s j (event (VisibilityChanged false)) (h .view) (view-seen r (event (VisibilityChanged false)) c) refl (λ a. refl)
-    payload-goes DeviceDisconnected c room = disconnect-goes r t b u s j (event DeviceDisconnected) (h .device) (device-seen r (event DeviceDisconnected) c) refl (λ a. refl)
+    payload-goes (VisibilityChanged false) c room = loss-goes l r t b u s j (event (VisibilityChanged false)) (λ a. refl) (h .view) (view-seen r (event (VisibilityChanged false)) c) refl
+    payload-goes DeviceDisconnected c room = disconnect-goes l r t b u s j (event DeviceDisconnected) (λ a. refl) (h .device) (device-seen r (event DeviceDisconnected) c) refl
 
 -- what is recorded of an event changes no press
 recorded-presses : (t : PlatformInputRouter) (e : PlatformInputEvent) → pressesOf (recordedEvent t e) ≡ pressesOf t
 recorded-presses t e = by-test (hasPlace t (e .header .device) (e .header .sequence)) (λ k. rw k) (λ k. rw k)
 
 recorded-joined : (r : CompositionRegistry) (t : PlatformInputRouter) (e : PlatformInputEvent) (b : Book) → Joined none (at r t) b → Joined none (at r (recordedEvent t e)) b
-recorded-joined r t e b j = record { agrees = j .agrees; presses = recorded-presses t e ∙ j .presses; hosted = j .hosted; captures-rise = j .captures-rise }
+recorded-joined r t e b j = record { shared = j .shared; own = record { presses = recorded-presses t e ∙ j .own .presses; hosted = j .own .hosted } }
 
-route-after : (c : Counter) (b : Book) → Safe c → Joined none c b → (e : PlatformInputEvent) (o : RouterOutcome) → routeRefusal (c .registry) (c .router) e ≡ o → RouteGoes b e (routedAfter (c .registry) (c .router) e o)
-route-after c b v j e Accepted q =
+route-after : (l : Lists) (c : Counter) (b : Book) → Safe c → Joined none c b → (e : PlatformInputEvent) (o : RouterOutcome) → routeRefusal (c .registry) (c .router) e ≡ o → RouteGoes l b e (routedAfter (c .registry) (c .router) e o)
+route-after l c b v j e Accepted q =
     let seen = checked (c .registry) (c .router) e q in
-    payload-goes (c .registry) (recordedEvent (c .router) e) b (v .registry)
+    payload-goes l (c .registry) (recordedEvent (c .router) e) b (v .registry)
     (router.claims .recorded-sound (c .router) (e .header .device) (e .header .sequence) (e .header .«timestamp_micros») (v .router))
     (recorded-joined (c .registry) (c .router) e b j) (e .header) (e .payload) (seen .event) (recorded-room (c .router) e (effectOf e) ∙ seen .room)
-route-after c b v j e (Refused x) q = route-refused b e x (c .registry) (c .router) j
+route-after l c b v j e (Refused x) q = route-refused l b e x (c .registry) (c .router) j
 
 pub route-goes : (c : Counter) (b : Book) → Safe c → Joined none c b → (l : Lists) (e : PlatformInputEvent) → Goes c b (Router (Route e)) l
 unfolding stepped routerStep routed
-route-goes c b v j l e = route-after c b v j e (routeRefusal (c .registry) (c .router) e) refl
+route-goes c b v j l e = route-after l c b v j e (routeRefusal (c .registry) (c .router) e) refl

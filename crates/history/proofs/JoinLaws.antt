@@ -1,4 +1,5 @@
--- How a counter stands to the book between two calls, and what one call has to show: its releases are those owed, none twice, and the book goes on standing so.
+-- How a counter stands to the book between two calls, in two halves: what all routers over a registry share, and what is one router's.
+-- And what one call has to show: its releases are those owed, none twice, and the book goes on standing so.
 use mathlib.Core.Path.{_≡_, refl, sym, ap, _∙_, subst}
 use mathlib.Core.Bool.{Bool, true, false, _||_}
 use mathlib.Core.List.{List, [], _∷_}
@@ -19,10 +20,11 @@ use Rattle.records.specs.Errors.{errorNumber}
 use Rattle.composition_soundness.proofs.ListLaws.{all-as}
 use Rattle.input_events.specs.declared.error.PlatformInputError.the-variants.{Composition}
 use Rattle.input_events.specs.RouterErrors.{routerNumberOf, fromComposition}
+use Rattle.input_router.specs.declared.router.PlatformInputRouter.{PlatformInputRouter}
 use Rattle.input_router.specs.Router.{pressesOf}
-use Rattle.book.specs.Book.{Book, heldKey, heldLt, withPresses}
+use Rattle.book.specs.Book.{Book, heldPlace, placeBefore, withPresses}
 use Rattle.book.specs.Notes.{noted, note}
-use Rattle.book.specs.Owed.{noneTwice, owedOnce, owed}
+use Rattle.book.specs.Owed.{Concern, nothing, concern, isSamePressOf, isSameRelease, noneTwice, concernedPresses, concernedCaptures, thenCaptures, owedPresses, owedCaptures, owed}
 use Rattle.registry_book.specs.Agreement.{isOpen, Agrees, Keeps, KeepsBut}
 use Rattle.counter.specs.declared.step.Counter.{Counter}
 use Rattle.history.specs.Histories.{Entry}
@@ -38,38 +40,58 @@ isPending (some g) h = sameHandle g h
 abbrev pub isHosted : Option GenerationalHandle → CompositionRegistry → Binding → Bool
 isHosted p r x = isOpen r (x .surface) || isPending p (x .surface)
 
+-- what all routers over a registry share: the book has its captures, in order, and its panels' views
+pub record Shared (r : CompositionRegistry) (b : Book) : Type 0 where
+  pub agrees : Agrees r b
+  pub captures-rise : rising heldPlace placeBefore (b .captures) ≡ true
+
+-- what is one router's: it holds exactly these presses, each on a panel that is live or was just closed
+pub record Own (p : Option GenerationalHandle) (r : CompositionRegistry) (t : PlatformInputRouter) (l : List Binding) : Type 0 where
+  pub presses : pressesOf t ≡ l
+  pub hosted : all (isHosted p r) l ≡ true
+
 pub record Joined (p : Option GenerationalHandle) (c : Counter) (b : Book) : Type 0 where
-  pub agrees : Agrees (c .registry) b
-  -- the router holds exactly the open presses
-  pub presses : pressesOf (c .router) ≡ b .presses
-  pub hosted : all (isHosted p (c .registry)) (b .presses) ≡ true
-  -- the book's captures are in order
-  pub captures-rise : rising heldKey heldLt (b .captures) ≡ true
+  pub shared : Shared (c .registry) b
+  pub own : Own p (c .registry) (c .router) (b .presses)
 
 -- a call with its answer, from a book, to a counter
 pub record Right (e : Entry) (b : Book) (after : Counter) : Type 0 where
-  pub listed : e .listed ≡ owed (e .call) (e .told) b
-  pub once : noneTwice (e .listed) ≡ true
-  pub next : Joined (closedIn e) after (note (e .call) (e .told) b)
+  pub listed : e .listed ≡ owed (e .asked) (e .told) b
+  pub once : noneTwice isSameRelease (e .listed) ≡ true
+  pub one-panel : noneTwice isSamePressOf (owedPresses (e .asked) (e .told) b) ≡ true
+  pub next : Joined (closedIn e) after (note (e .asked) (e .told) b)
 
 -- the answers that the premises leave
-pub record Answered (e : Entry) : Type 0 where
+pub record Allowed (e : Entry) : Type 0 where
   pub not-21 : e .told .number ≡ 21 → ⊥
   pub not-22 : e .told .number ≡ 22 → ⊥
 
-none-once : {l : List Binding} → l ≡ [] → noneTwice l ≡ true
+none-once : {l : List Binding} (same : Binding → Binding → Bool) → l ≡ [] → noneTwice same l ≡ true
 unfolding noneTwice
-none-once q = ap noneTwice q
+none-once same q = ap (noneTwice same) q
 
 -- a refused call lists nothing, and the book stays
 pub refused : (e : Entry) (b : Book) (after : Counter) → eqb (e .told .number) 0 ≡ false → e .listed ≡ [] → Joined none after b → Right e b after
-unfolding owed note
-refused e b after n q j = record { listed = rw n q; once = none-once q; next = rw n j }
+unfolding owed owedPresses owedCaptures thenCaptures note
+refused e b after n q j = record { listed = rw n q; once = none-once isSameRelease q; one-panel = none-once isSamePressOf (rw n); next = rw n j }
 
-pub accepted : (e : Entry) (b : Book) (after : Counter) → eqb (e .told .number) 0 ≡ true → e .listed ≡ owedOnce (e .call) b → noneTwice (e .listed) ≡ true
-    → Joined (closedBy (e .call)) after (noted (e .call) (e .told) b) → Right e b after
-unfolding owed note
-accepted e b after n q o j = record { listed = rw n q; once = o; next = rw n j }
+-- what an accepted call lists
+abbrev pub Owes : Entry → Book → Concern → Type 0
+Owes e b c = e .listed ≡ thenCaptures (concernedPresses c b) (concernedCaptures c b)
+
+pub accepted : (e : Entry) (b : Book) (after : Counter) → eqb (e .told .number) 0 ≡ true → Owes e b (concern (e .asked .call)) → noneTwice isSameRelease (e .listed) ≡ true
+    → noneTwice isSamePressOf (concernedPresses (concern (e .asked .call)) b) ≡ true → Joined (closedBy (e .asked .call)) after (noted (e .asked) (e .told) b) → Right e b after
+unfolding owed owedPresses owedCaptures note
+accepted e b after n q o m j = record { listed = rw n q; once = o; one-panel = rw n m; next = rw n j }
+
+-- what concerns nothing lists nothing
+pub nothing-owed : (e : Entry) (b : Book) (c : Concern) → c ≡ nothing → e .listed ≡ [] → Owes e b c
+unfolding thenCaptures concernedPresses concernedCaptures
+nothing-owed e b c q l = rw q l
+
+pub nothing-twice : (same : Binding → Binding → Bool) (b : Book) (c : Concern) → c ≡ nothing → noneTwice same (concernedPresses c b) ≡ true
+unfolding noneTwice concernedPresses
+nothing-twice same b c q = rw q
 
 -- ---- live panels stay live
 or-false : (b : Bool) → (b || false) ≡ b
@@ -95,7 +117,7 @@ hosted-but g r after l k h = all-as (isHosted none r) (isHosted (some g) after) 
     (λ s. hosts (some g) after x (k .stays (x .surface) s (live r x t) .0))) l h
 
 -- ---- a call on the registry that lists nothing
-module _ (c : Counter) (b : Book) (j : Joined none c b) (e : Entry) (a : Answered e) (after : CompositionRegistry) (unlisted : e .listed ≡ []) where
+module _ (c : Counter) (b : Book) (j : Joined none c b) (e : Entry) (a : Allowed e) (after : CompositionRegistry) (unlisted : e .listed ≡ []) where
   abbrev next : Counter
   next = record { registry = after; router = c .router }
 
@@ -106,16 +128,23 @@ module _ (c : Counter) (b : Book) (j : Joined none c b) (e : Entry) (a : Answere
       refused e b next (ap (λ k. eqb k 0) n ∙ refused-number (Composition x)) unlisted
       (subst (λ (r : CompositionRegistry). Joined none (record { registry = r; router = c .router }) b) (sym same) j)
 
-  pub registry-right : (o : Outcome) → e .told .number ≡ routerNumberOf (fromComposition o) → owedOnce (e .call) b ≡ []
+  pub registry-right : (o : Outcome) → e .told .number ≡ routerNumberOf (fromComposition o) → concern (e .asked .call) ≡ nothing
       → ((x : CompositionError) → o ≡ Refused x → (x ≡ RevisionExhausted → ⊥) → (x ≡ GenerationExhausted → ⊥) → after ≡ c .registry)
-      → (o ≡ Accepted → Joined (closedBy (e .call)) next (noted (e .call) (e .told) b)) → Right e b next
-  registry-right Accepted n owes stays goes = accepted e b next (ap (λ k. eqb k 0) n) (unlisted ∙ sym owes) (none-once unlisted) (goes refl)
+      → (o ≡ Accepted → Joined (closedBy (e .asked .call)) next (noted (e .asked) (e .told) b)) → Right e b next
+  registry-right Accepted n owes stays goes =
+      accepted e b next (ap (λ k. eqb k 0) n) (nothing-owed e b (concern (e .asked .call)) owes unlisted) (none-once isSameRelease unlisted)
+      (nothing-twice isSamePressOf b (concern (e .asked .call)) owes) (goes refl)
   registry-right (Refused x) n owes stays goes = registry-refused x n (stays x refl)
 
 -- ---- other presses
 -- the registry says nothing of presses
-pub agrees-presses : (r : CompositionRegistry) (b : Book) (l : List Binding) → Agrees r b → Agrees r (withPresses l b)
-agrees-presses r b l a = record { captures-held = a .captures-held; homes-known = a .homes-known; held-well = a .held-well; layered = a .layered; single-mapped = a .single-mapped }
+pub shared-presses : (r : CompositionRegistry) (b : Book) (l : List Binding) → Shared r b → Shared r (withPresses l b)
+shared-presses r b l s =
+    let a = s .agrees in
+    record {
+      agrees = record { captures-held = a .captures-held; homes-known = a .homes-known; held-well = a .held-well; layered = a .layered; single-mapped = a .single-mapped };
+      captures-rise = s .captures-rise;
+    }
 
 -- what is known of all, and passes a test
 pub keep-so : {E : Type 0} (s p q : E → Bool) → ((e : E) → s e ≡ true → p e ≡ true → q e ≡ true) → (l : List E) → all s l ≡ true → all q (keep p l) ≡ true

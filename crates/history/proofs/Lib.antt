@@ -1,5 +1,6 @@
 pub mod NumberLaws
 pub mod SafeLaws
+pub mod TestLaws
 pub mod OnceLaws
 pub mod ListedLaws
 pub mod JoinLaws
@@ -9,4 +10,6 @@ pub mod RouteLaws
 pub mod LossLaws
 pub mod TrackLaws
 pub mod EventLaws
+pub mod StayLaws
+pub mod OrderLaws
 pub mod HistoryLaws

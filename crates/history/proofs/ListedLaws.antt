@@ -12,19 +12,19 @@ use Rattle.lists.proofs.RisingLaws.{Over, Sorted, rising-sorted}
 use Rattle.handles.specs.Handles.{sameHandle, handleLt}
 use Rattle.handles.specs.declared.GenerationalHandle.{GenerationalHandle}
 use Rattle.handles.proofs.HandleLaws.{handles}
-use Rattle.maps.specs.Bindings.{keyOfBinding}
-use Rattle.maps.specs.Keys.{keyLt}
 use Rattle.maps.specs.MapTables.{isSome}
 use Rattle.maps.specs.declared.bindings.Binding.{Binding}
 use Rattle.maps.specs.declared.captures.Capture.{Capture}
-use Rattle.composition_soundness.proofs.ListLaws.{all-as}
+use Rattle.composition_soundness.proofs.ListLaws.{all-as, all-both, all-keep}
 use Rattle.release_lists.specs.Releases.{isOn, isNotBelow, byPanel, isListed, captureRelease, addCapture, addCaptures}
-use Rattle.lists.proofs.KeepLaws.{keep-in, all-kept}
+use Rattle.lists.proofs.KeepLaws.{keep-in}
 use Rattle.release_lists.proofs.ReleaseLaws.{by-panel-least}
-use Rattle.book.specs.Book.{Held, isOnPanel}
-use Rattle.book.specs.Owed.{sameRelease, noneTwice, cancelOf, thenCaptures, panelPut, panelsOf, panelByPanel}
+use Rattle.book.specs.Ids.{pressBefore}
+use Rattle.book.specs.Book.{Held, keyOf, isOnPanel}
+use Rattle.book.specs.Owed.{isSamePressOf, isSameRelease, noneTwice, cancelOf, thenCaptures, panelPut, panelsOf, panelByPanel}
 use Rattle.registry_book.specs.Claims.{captureOf}
-use Rattle.history.proofs.OnceLaws.{release-is, isOther, other-sym, once-append, once-keep, rising-once}
+use Rattle.history.proofs.TestLaws.{pair-is}
+use Rattle.history.proofs.OnceLaws.{press-swap, isOther, other-sym, apart, once-append, once-keep, rising-once}
 
 -- tests that agree where a third one passes
 pub keep-as : {E : Type 0} (p q s : E → Bool) → ((e : E) → s e ≡ true → p e ≡ q e) → (l : List E) → all s l ≡ true → keep p l ≡ keep q l
@@ -46,29 +46,33 @@ others-more l x m h = keep-as (λ y. all (isOther y) (l ++ (x ∷ []))) (λ y. a
     and-nothing true = refl
     and-nothing false = refl
 
+-- a capture's pair is listed by the router's test exactly if it is by the book's
+is-listed : (x : Held) (l : List Binding) → isListed (x .capture) l ≡ not (all (isOther (cancelOf x)) l)
+is-listed x l = (λ i. isSome (first (λ y. pair-is x y i) l)) ∙ listed-is (isSameRelease (cancelOf x)) l
+
 add-new : (l : List Binding) (c : Capture) → isListed c l ≡ false → addCapture l c ≡ l ++ (captureRelease c ∷ [])
 add-new l c t = rw t
 
 add-old : (l : List Binding) (c : Capture) → isListed c l ≡ true → addCapture l c ≡ l
 add-old l c t = rw t
 
-pub added : (l : List Binding) (cs : List Held) → noneTwice (map cancelOf cs) ≡ true → addCaptures l (map captureOf cs) ≡ thenCaptures l cs
+pub added : (l : List Binding) (cs : List Held) → noneTwice isSameRelease (map cancelOf cs) ≡ true → addCaptures l (map captureOf cs) ≡ thenCaptures l cs
 unfolding addCaptures thenCaptures noneTwice
 added l [] h = sym (append-nil l)
 added l (x ∷ cs) h =
-    let own = and-left (all (isOther (cancelOf x)) (map cancelOf cs)) (noneTwice (map cancelOf cs)) h in
-    let rest = and-right (all (isOther (cancelOf x)) (map cancelOf cs)) (noneTwice (map cancelOf cs)) h in
+    let own = and-left (all (isOther (cancelOf x)) (map cancelOf cs)) (noneTwice isSameRelease (map cancelOf cs)) h in
+    let rest = and-right (all (isOther (cancelOf x)) (map cancelOf cs)) (noneTwice isSameRelease (map cancelOf cs)) h in
     by-test (all (isOther (cancelOf x)) l)
     (λ t.
     let kept : keep (λ y. all (isOther y) l) (map cancelOf (x ∷ cs)) ≡ cancelOf x ∷ keep (λ y. all (isOther y) l) (map cancelOf cs) = rw t in
-    ap (λ (m : List Binding). addCaptures m (map captureOf cs)) (add-new l (x .capture) (listed-is (sameRelease (cancelOf x)) l ∙ ap not t))
+    ap (λ (m : List Binding). addCaptures m (map captureOf cs)) (add-new l (x .capture) (is-listed x l ∙ ap not t))
     ∙ added (l ++ (cancelOf x ∷ [])) cs rest
     ∙ append-assoc l (cancelOf x ∷ []) (keep (λ y. all (isOther y) (l ++ (cancelOf x ∷ []))) (map cancelOf cs))
     ∙ ap (λ (m : List Binding). l ++ (cancelOf x ∷ m)) (others-more l (cancelOf x) (map cancelOf cs) own)
     ∙ ap (λ (m : List Binding). l ++ m) (sym kept))
     (λ t.
     let kept : keep (λ y. all (isOther y) l) (map cancelOf (x ∷ cs)) ≡ keep (λ y. all (isOther y) l) (map cancelOf cs) = rw t in
-    ap (λ (m : List Binding). addCaptures m (map captureOf cs)) (add-old l (x .capture) (listed-is (sameRelease (cancelOf x)) l ∙ ap not t))
+    ap (λ (m : List Binding). addCaptures m (map captureOf cs)) (add-old l (x .capture) (is-listed x l ∙ ap not t))
     ∙ added l cs rest ∙ ap (λ (m : List Binding). l ++ m) (sym kept))
 
 -- ---- panel by panel
@@ -85,7 +89,7 @@ panels-rise [] = refl
 panels-rise (e ∷ l) = panels .insert-rises (e .surface) (panelsOf l) (panels-rise l)
 
 -- every press is of one of them
-abbrev isIn : List GenerationalHandle → GenerationalHandle → Bool
+abbrev pub isIn : List GenerationalHandle → GenerationalHandle → Bool
 isIn hs h = isSome (lookup itself sameHandle h hs)
 
 in-put : (g h : GenerationalHandle) (hs : List GenerationalHandle) → isIn hs h ≡ true → isIn (panelPut g hs) h ≡ true
@@ -98,7 +102,7 @@ put-in : (h : GenerationalHandle) (hs : List GenerationalHandle) → isIn (panel
 unfolding panelPut
 put-in h hs = rw (panels .find-inserted h hs)
 
-all-in : (l : List Binding) → all (λ e. isIn (panelsOf l) (e .surface)) l ≡ true
+pub all-in : (l : List Binding) → all (λ e. isIn (panelsOf l) (e .surface)) l ≡ true
 unfolding panelsOf
 all-in [] = refl
 all-in (e ∷ l) = and-both (put-in (e .surface) (panelsOf l))
@@ -160,26 +164,33 @@ by-panels (h ∷ hs) l s m =
 pub all-by-panel : (l : List Binding) → byPanel l ≡ panelByPanel (panelsOf l) l
 all-by-panel l = by-panels (panelsOf l) l (rising-sorted itself handles (panelsOf l) (panels-rise l)) (all-in l)
 
--- ---- none stands twice there
-all-over : (h : GenerationalHandle) (hs : List GenerationalHandle) (l : List Binding) → Over itself handleLt h hs → all (λ e. not (isOn h e)) (panelByPanel hs l) ≡ true
+-- ---- no press stands twice there
+-- of a list in which none does, what passes a test is apart from what fails it
+split-apart : (p : Binding → Bool) (l : List Binding) → noneTwice isSamePressOf l ≡ true → apart isSamePressOf (keep p l) (keep (λ e. not (p e)) l) ≡ true
+unfolding noneTwice
+split-apart p [] n = refl
+split-apart p (x ∷ l) n =
+    let own = and-left (all (λ y. not (isSamePressOf x y)) l) (noneTwice isSamePressOf l) n in
+    let rest = split-apart p l (and-right (all (λ y. not (isSamePressOf x y)) l) (noneTwice isSamePressOf l) n) in
+    by-test (p x)
+    (λ t. rw t (and-both (all-keep (λ y. not (isSamePressOf x y)) (λ e. not (p e)) l own) rest))
+    (λ t. rw t (all-both (λ y. not (isSamePressOf y x)) (λ y. all (λ z. not (isSamePressOf y z)) (keep (λ e. not (p e)) l)) (keep p l)
+    (all-keep (λ y. not (isSamePressOf y x)) p l (all-as (λ y. not (isSamePressOf x y)) (λ y. not (isSamePressOf y x)) (press-swap x) l own)) rest))
+
+-- what holds of all holds of those of some panels
+all-panels : (p : Binding → Bool) (hs : List GenerationalHandle) (l : List Binding) → all p l ≡ true → all p (panelByPanel hs l) ≡ true
 unfolding panelByPanel
-all-over h [] l o = refl
-all-over h (g ∷ hs) l o =
-    all-append (λ e. not (isOn h e)) (keep (isOnPanel g) l) (panelByPanel hs l)
-    ∙ and-both (all-kept (isOnPanel g) (λ e. not (isOn h e)) (λ e t. ap not (less-apart h (e .surface) (rw (sym (handles .same-eq g (e .surface) t)) (o .0)))) l) (all-over h hs l (o .1))
+all-panels p [] l h = refl
+all-panels p (g ∷ hs) l h = all-append p (keep (isOnPanel g) l) (panelByPanel hs l) ∙ and-both (all-keep p (isOnPanel g) l h) (all-panels p hs l h)
 
--- releases on a panel, and releases on others
-panels-apart : (h : GenerationalHandle) (x y : Binding) → isOn h x ≡ true → not (isOn h y) ≡ true → isOther x y ≡ true
-panels-apart h x y t f = by-test (sameRelease x y)
-    (λ s. clash (ap (λ (z : Binding). isOn h z) (sym (release-is x y s)) ∙ t) (not-true (isOn h y) f))
-    (λ s. ap not s)
-
-panels-once : (hs : List GenerationalHandle) (l : List Binding) → Sorted itself handleLt hs → noneTwice l ≡ true → noneTwice (panelByPanel hs l) ≡ true
+panels-once : (hs : List GenerationalHandle) (l : List Binding) → Sorted itself handleLt hs → noneTwice isSamePressOf l ≡ true → noneTwice isSamePressOf (panelByPanel hs l) ≡ true
 unfolding panelByPanel noneTwice
 panels-once [] l s n = refl
 panels-once (h ∷ hs) l s n =
-    once-append (keep (isOnPanel h) l) (panelByPanel hs l) (once-keep (isOnPanel h) l n) (panels-once hs l (s .1) n)
-    (all-kept (isOnPanel h) (λ x. all (isOther x) (panelByPanel hs l)) (λ x t. all-as (λ y. not (isOn h y)) (isOther x) (λ y f. panels-apart h x y t f) (panelByPanel hs l) (all-over h hs l (s .0))) l)
+    once-append isSamePressOf (keep (isOnPanel h) l) (panelByPanel hs l) (once-keep isSamePressOf (isOnPanel h) l n) (panels-once hs l (s .1) n)
+    (all-as (λ x. all (λ y. not (isSamePressOf x y)) (keep (λ e. not (isOnPanel h e)) l)) (λ x. all (λ y. not (isSamePressOf x y)) (panelByPanel hs l))
+    (λ x t. ap (all (λ y. not (isSamePressOf x y))) (sym (others-kept h hs l (s .0))) ∙ all-panels (λ y. not (isSamePressOf x y)) hs (keep (λ e. not (isOnPanel h e)) l) t)
+    (keep (isOnPanel h) l) (split-apart (isOnPanel h) l n))
 
-pub all-once : (l : List Binding) → rising keyOfBinding keyLt l ≡ true → noneTwice (panelByPanel (panelsOf l) l) ≡ true
+pub all-once : (l : List Binding) → rising keyOf pressBefore l ≡ true → noneTwice isSamePressOf (panelByPanel (panelsOf l) l) ≡ true
 all-once l h = panels-once (panelsOf l) l (rising-sorted itself handles (panelsOf l) (panels-rise l)) (rising-once l h)

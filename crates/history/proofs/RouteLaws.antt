@@ -33,26 +33,37 @@ use Rattle.release_lists.specs.Releases.{releases}
 use Rattle.input_releases.specs.declared.answer.Routed.{Routed}
 use Rattle.input_releases.specs.Answers.{refusedWith}
 use Rattle.calls.specs.declared.call.Call.the-variants.{Router}
+use Rattle.calls.specs.declared.call.Lists.{Lists}
 use Rattle.calls.specs.declared.call.RouterCall.the-variants.{Route}
-use Rattle.book.specs.Book.{Book}
+use Rattle.book.specs.Book.{Told, Book}
+use Rattle.book.specs.Notes.{Change, change, changed, registered, noted}
+use Rattle.book.specs.Owed.{Concern, concern, withoutConcerned}
 use Rattle.counter.specs.declared.step.Counter.{Counter}
 use Rattle.counter.specs.Step.{fromRouted}
 use Rattle.history.specs.Histories.{Entry, entryOf}
 use Rattle.history.proofs.NumberLaws.{refused-number, then-first, then-last, if-accepted, from-accepted}
-use Rattle.history.proofs.JoinLaws.{Joined, Right, Answered, refused}
+use Rattle.history.proofs.JoinLaws.{Joined, Right, Allowed, refused}
 
 abbrev pub at : CompositionRegistry → PlatformInputRouter → Counter
 at r t = record { registry = r; router = t }
 
-abbrev pub routeEntry : PlatformInputEvent → Routed → Entry
-routeEntry e x = entryOf (Router (Route e)) (fromRouted x .answer)
+-- whatever lists are handed in beside the event
+module _ (l : Lists) where
+  abbrev pub routeEntry : PlatformInputEvent → Routed → Entry
+  routeEntry e x = entryOf (record { call = Router (Route e); lists = l }) (fromRouted x .answer)
 
--- an event that the premises leave is right
-abbrev pub RouteGoes : Book → PlatformInputEvent → Routed → Type 0
-RouteGoes b e x = Answered (routeEntry e x) → Right (routeEntry e x) b (fromRouted x .counter)
+  -- an event that the premises leave is right
+  abbrev pub RouteGoes : Book → PlatformInputEvent → Routed → Type 0
+  RouteGoes b e x = Allowed (routeEntry e x) → Right (routeEntry e x) b (fromRouted x .counter)
 
-pub route-refused : (b : Book) (e : PlatformInputEvent) (x : PlatformInputError) (r : CompositionRegistry) (t : PlatformInputRouter) → Joined none (at r t) b → RouteGoes b e (refusedWith x r t)
-route-refused b e x r t j a = refused (routeEntry e (refusedWith x r t)) b (at r t) (refused-number x) (entries-packed releases []) j
+  pub route-refused : (b : Book) (e : PlatformInputEvent) (x : PlatformInputError) (r : CompositionRegistry) (t : PlatformInputRouter) → Joined none (at r t) b → RouteGoes b e (refusedWith x r t)
+  route-refused b e x r t j a = refused (routeEntry e (refusedWith x r t)) b (at r t) (refused-number x) (entries-packed releases []) j
+
+  -- what the book notes of an event: the press that it changes, without what it concerns
+  pub route-noted : (e : PlatformInputEvent) (a : Told) (b : Book) (c : Concern) (k : Change) → concern (Router (Route e)) ≡ c → change (Router (Route e)) a ≡ k
+      → noted (record { call = Router (Route e); lists = l }) a b ≡ withoutConcerned c (changed k b)
+  unfolding registered noted
+  route-noted e a b c k q m = λ i. withoutConcerned (q i) (changed (m i) b)
 
 -- ---- what the checks have seen
 module _ (r : CompositionRegistry) (e : PlatformInputEvent) (h : eventRefusal (r .views) e ≡ Accepted) where

@@ -1,5 +1,5 @@
 -- An arbitrated event is right: the book reads the same effect and receiver from the event and its answer as the router does, and the receiver is a live panel.
-use mathlib.Core.Path.{_≡_, refl, ap, _∙_, subst}
+use mathlib.Core.Path.{_≡_, refl, sym, ap, _∙_, subst}
 use mathlib.Core.Bool.{Bool, true, false, not}
 use mathlib.Core.List.{List, [], _∷_}
 use mathlib.Core.Option.{none}
@@ -39,76 +39,76 @@ use Rattle.input_router.specs.Router.{pressesOf}
 use Rattle.input_router.proofs.SoundLaws.{parts, opened-accepted}
 use Rattle.input_route.specs.Checks.{effectRefusal}
 use Rattle.input_route.specs.Route.{tracked}
-use Rattle.book.specs.Book.{Book, opened, ended}
-use Rattle.book.specs.Notes.{receiver, notedPointer, notedKey, notedSnapshot, notedSight, notedPayload}
-use Rattle.book.specs.Owed.{ofSight, owedPayload}
+use Rattle.book.specs.Ids.{pressBefore}
+use Rattle.book.specs.Book.{Book, withPress, withoutPress}
+use Rattle.book.specs.Notes.{Change, opens, ends, leaves, receiver, pointerChange, keyChange, snapshotChange, payloadChange, changed}
+use Rattle.book.specs.Owed.{nothing, sightConcern, payloadConcern}
 use Rattle.registry_book.specs.Agreement.{isOpen}
 use Rattle.registry_book.proofs.PrimaryLaws.{none≢some, same-panel}
 use Rattle.history.proofs.NumberLaws.{if-accepted}
-use Rattle.history.proofs.JoinLaws.{isHosted, Joined, hosts, agrees-presses}
+use Rattle.history.proofs.JoinLaws.{isHosted, Joined, hosts, shared-presses}
+use Rattle.history.proofs.TestLaws.{insert-is, remove-is}
 use Rattle.history.proofs.RouteLaws.{at}
 
--- ---- what the book notes of an event that is arbitrated
--- its presses, by the effect of the event and the receiver
-abbrev pub trackedBook : Book → Effect → OptionalHandle → Book
-trackedBook b (Opens key) handle.None = b
-trackedBook b (Opens key) (handle.Some h) = opened key h b
-trackedBook b (Ends key) to = ended key b
-trackedBook b Nothing to = b
+-- ---- what the book reads from an event that is arbitrated
+-- the change of a press, by the router's effect of the event and the receiver
+abbrev pub changeFor : Effect → OptionalHandle → Change
+changeFor (Opens key) handle.None = leaves
+changeFor (Opens key) (handle.Some h) = opens key h
+changeFor (Ends key) to = ends key
+changeFor Nothing to = leaves
 
-module _ (b : Book) (key : BindingKey) where
-  pointer-noted : (phase : PointerPhase) (to : OptionalHandle) → notedPointer phase key to b ≡ trackedBook b (pointerEffect phase key) to
-  pointer-noted P.Down handle.None = refl
-  pointer-noted P.Down (handle.Some h) = refl
-  pointer-noted P.Move to = refl
-  pointer-noted P.Up to = refl
-  pointer-noted P.Cancel to = refl
+module _ (key : BindingKey) where
+  pointer-changes : (phase : PointerPhase) (to : OptionalHandle) → pointerChange phase key to ≡ changeFor (pointerEffect phase key) to
+  pointer-changes P.Down handle.None = refl
+  pointer-changes P.Down (handle.Some h) = refl
+  pointer-changes P.Move to = refl
+  pointer-changes P.Up to = refl
+  pointer-changes P.Cancel to = refl
 
-  key-noted : (phase : KeyPhase) (repeat : Bool) (to : OptionalHandle) → notedKey phase repeat key to b ≡ trackedBook b (keyEffect phase repeat key) to
-  key-noted K.Down true to = refl
-  key-noted K.Down false handle.None = refl
-  key-noted K.Down false (handle.Some h) = refl
-  key-noted K.Up repeat to = refl
+  key-changes : (phase : KeyPhase) (repeat : Bool) (to : OptionalHandle) → keyChange phase repeat key to ≡ changeFor (keyEffect phase repeat key) to
+  key-changes K.Down true to = refl
+  key-changes K.Down false handle.None = refl
+  key-changes K.Down false (handle.Some h) = refl
+  key-changes K.Up repeat to = refl
 
-  snapshot-noted : (connected : Bool) (to : OptionalHandle) → notedSnapshot connected key to b ≡ trackedBook b (gamepadEffect connected key) to
-  snapshot-noted true handle.None = refl
-  snapshot-noted true (handle.Some h) = refl
-  snapshot-noted false to = refl
+  snapshot-changes : (connected : Bool) (to : OptionalHandle) → snapshotChange connected key to ≡ changeFor (gamepadEffect connected key) to
+  snapshot-changes true handle.None = refl
+  snapshot-changes true (handle.Some h) = refl
+  snapshot-changes false to = refl
 
-module _ (d : InputDeviceId) (view : GenerationalHandle) (b : Book) where
-  gain-noted : (seen : Bool) → not seen ≡ false → notedSight seen view b ≡ b
-  gain-noted true h = refl
-  gain-noted false h = clash refl h
+module _ (d : InputDeviceId) where
+  pub payload-changes : (p : PlatformInputPayload) (to : OptionalHandle) → payloadChange p d to ≡ changeFor (effectIn d p) to
+  unfolding payloadChange effectIn
+  payload-changes (Pointer p) to = pointer-changes _ (p .phase) to
+  payload-changes (Wheel w) to = refl
+  payload-changes (Key k) to = key-changes _ (k .phase) (k .repeat) to
+  payload-changes (Shortcut s) to = refl
+  payload-changes (Text t) to = refl
+  payload-changes (Composition c) to = refl
+  payload-changes (GamepadSnapshot g) to = snapshot-changes _ (g .connected) to
+  payload-changes (FocusChanged focused) to = refl
+  payload-changes (VisibilityChanged visible) to = refl
+  payload-changes DeviceDisconnected to = refl
 
-  pub payload-noted : (p : PlatformInputPayload) (to : OptionalHandle) → isDisconnect p ≡ false → isLoss p ≡ false → notedPayload p d view to b ≡ trackedBook b (effectIn d p) to
-  unfolding notedPayload effectIn isLoss isDisconnect
-  payload-noted (Pointer p) to x y = pointer-noted b _ (p .phase) to
-  payload-noted (Wheel w) to x y = refl
-  payload-noted (Key k) to x y = key-noted b _ (k .phase) (k .repeat) to
-  payload-noted (Shortcut s) to x y = refl
-  payload-noted (Text t) to x y = refl
-  payload-noted (Composition c) to x y = refl
-  payload-noted (GamepadSnapshot g) to x y = snapshot-noted b _ (g .connected) to
-  payload-noted (FocusChanged focused) to x y = gain-noted focused y
-  payload-noted (VisibilityChanged visible) to x y = gain-noted visible y
-  payload-noted DeviceDisconnected to x y = clash refl x
+  module _ (view : GenerationalHandle) where
+    gain-concerns : (seen : Bool) → not seen ≡ false → sightConcern seen view ≡ nothing
+    gain-concerns true h = refl
+    gain-concerns false h = clash refl h
 
-  gain-owes : (seen : Bool) → not seen ≡ false → ofSight seen view b ≡ []
-  gain-owes true h = refl
-  gain-owes false h = clash refl h
-
-  pub payload-owes : (p : PlatformInputPayload) → isDisconnect p ≡ false → isLoss p ≡ false → owedPayload p d view b ≡ []
-  unfolding owedPayload isLoss isDisconnect
-  payload-owes (Pointer p) x y = refl
-  payload-owes (Wheel w) x y = refl
-  payload-owes (Key k) x y = refl
-  payload-owes (Shortcut s) x y = refl
-  payload-owes (Text t) x y = refl
-  payload-owes (Composition c) x y = refl
-  payload-owes (GamepadSnapshot g) x y = refl
-  payload-owes (FocusChanged focused) x y = gain-owes focused y
-  payload-owes (VisibilityChanged visible) x y = gain-owes visible y
-  payload-owes DeviceDisconnected x y = clash refl x
+    -- what is no disconnect and no loss concerns nothing
+    pub payload-concerns : (p : PlatformInputPayload) → isDisconnect p ≡ false → isLoss p ≡ false → payloadConcern p d view ≡ nothing
+    unfolding payloadConcern isLoss isDisconnect
+    payload-concerns (Pointer p) x y = refl
+    payload-concerns (Wheel w) x y = refl
+    payload-concerns (Key k) x y = refl
+    payload-concerns (Shortcut s) x y = refl
+    payload-concerns (Text t) x y = refl
+    payload-concerns (Composition c) x y = refl
+    payload-concerns (GamepadSnapshot g) x y = refl
+    payload-concerns (FocusChanged focused) x y = gain-concerns focused y
+    payload-concerns (VisibilityChanged visible) x y = gain-concerns visible y
+    payload-concerns DeviceDisconnected x y = clash refl x
 
 -- ---- the receiver
 pub receiver-is : (o : OptionalHandle) (l : Deliveries) → receiver o (entriesOf deliveries l) ≡ receiverOf o l
@@ -132,29 +132,35 @@ module _ (r : CompositionRegistry) where
 
 -- ---- the presses after it
 module _ (r : CompositionRegistry) (t : PlatformInputRouter) (b : Book) (s : isRouterSound t ≡ true) (j : Joined none (at r t) b) where
-  opened-joined : (key : BindingKey) (h : GenerationalHandle) → hasRoom t key ≡ true → isOpen r h ≡ true → Joined none (at r (tracked t (Opens key) (handle.Some h))) (opened key h b)
-  unfolding opened
+  opened-joined : (key : BindingKey) (h : GenerationalHandle) → hasRoom t key ≡ true → isOpen r h ≡ true → Joined none (at r (tracked t (Opens key) (handle.Some h))) (withPress key h b)
+  unfolding withPress
   opened-joined key h room there =
-      let low = keep (λ x. keyLt (keyOfBinding x) (bindingKey key)) (b .presses) in
-      let high = keep (λ x. keyLt (bindingKey key) (keyOfBinding x)) (b .presses) in
+      let new = press key h in
+      let low = keep (λ x. pressBefore (x .key) key) (b .presses) in
+      let high = keep (λ x. pressBefore key (x .key)) (b .presses) in
       record {
-        agrees = agrees-presses r b _ (j .agrees);
-        presses = rw (opened-accepted t key h (parts t s) room) (entries-packed bindings (insert keyOfBinding keyLt (press key h) (pressesOf t)) ∙ ap (insert keyOfBinding keyLt (press key h)) (j .presses));
-        hosted = all-append (isHosted none r) low (press key h ∷ high)
-            ∙ and-both (all-keep (isHosted none r) _ (b .presses) (j .hosted)) (and-both (hosts none r (press key h) there) (all-keep (isHosted none r) _ (b .presses) (j .hosted)));
-        captures-rise = j .captures-rise;
+        shared = shared-presses r b _ (j .shared);
+        own = record {
+          presses = rw (opened-accepted t key h (parts t s) room)
+              (entries-packed bindings (insert keyOfBinding keyLt new (pressesOf t)) ∙ ap (insert keyOfBinding keyLt new) (j .own .presses) ∙ sym (insert-is new (b .presses)));
+          hosted = all-append (isHosted none r) low (new ∷ high)
+              ∙ and-both (all-keep (isHosted none r) _ (b .presses) (j .own .hosted)) (and-both (hosts none r new there) (all-keep (isHosted none r) _ (b .presses) (j .own .hosted)));
+        };
       }
 
-  ended-joined : (key : BindingKey) → Joined none (at r (tracked t (Ends key) handle.None)) (ended key b)
-  unfolding ended
+  ended-joined : (key : BindingKey) → Joined none (at r (tracked t (Ends key) handle.None)) (withoutPress key b)
+  unfolding withoutPress
   ended-joined key = record {
-    agrees = agrees-presses r b _ (j .agrees);
-    presses = entries-packed bindings (remove keyOfBinding keySame (bindingKey key) (pressesOf t)) ∙ ap (remove keyOfBinding keySame (bindingKey key)) (j .presses);
-    hosted = all-keep (isHosted none r) _ (b .presses) (j .hosted);
-    captures-rise = j .captures-rise;
+    shared = shared-presses r b _ (j .shared);
+    own = record {
+      presses = entries-packed bindings (remove keyOfBinding keySame (bindingKey key) (pressesOf t)) ∙ ap (remove keyOfBinding keySame (bindingKey key)) (j .own .presses)
+          ∙ sym (remove-is key (b .presses));
+      hosted = all-keep (isHosted none r) _ (b .presses) (j .own .hosted);
+    };
   }
 
-  pub tracked-joined : (f : Effect) (to : OptionalHandle) → effectRefusal t f ≡ Accepted → ((h : GenerationalHandle) → to ≡ handle.Some h → isOpen r h ≡ true) → Joined none (at r (tracked t f to)) (trackedBook b f to)
+  pub tracked-joined : (f : Effect) (to : OptionalHandle) → effectRefusal t f ≡ Accepted → ((h : GenerationalHandle) → to ≡ handle.Some h → isOpen r h ≡ true) → Joined none (at r (tracked t f to)) (changed (changeFor f to) b)
+  unfolding changed
   tracked-joined (Opens key) handle.None room there = j
   tracked-joined (Opens key) (handle.Some h) room there = opened-joined key h (not-false (hasRoom t key) (if-accepted (not (hasRoom t key)) _ room)) (there h refl)
   tracked-joined (Ends key) to room there = ended-joined key

@@ -1,11 +1,11 @@
 -- Demand 3: nothing lost. One statement about every list of calls from a fresh start.
 use mathlib.Core.Path.{_≡_}
 use mathlib.Core.Logic.{_⊎_}
-use mathlib.Core.Bool.{Bool, true, false}
+use mathlib.Core.Bool.{Bool, true, false, not, cond}
 use mathlib.Core.List.{List, [], _∷_, _++_}
 use mathlib.Core.Option.{Option, none, some}
-use lib.Dec.{eqb}
 use Rattle.handles.specs.declared.GenerationalHandle.{GenerationalHandle}
+use Rattle.maps.specs.declared.bindings.Binding.{Binding}
 use Rattle.records.specs.declared.error.Outcome.the-variants as composition
 use Rattle.composition_state.specs.Damage.{isSound}
 use Rattle.composition_state.specs.Start.{started}
@@ -16,9 +16,10 @@ use Rattle.calls.specs.declared.call.Call.{Call}
 use Rattle.calls.specs.declared.call.Call.the-variants.{Panel, Input, ReleaseDevice, Shortcut, Arbitrate, Close, Router, Read}
 use Rattle.calls.specs.declared.call.CloseCall.the-variants.{CloseSurface, Shutdown}
 use Rattle.calls.specs.declared.call.RouterCall.the-variants.{ReleaseSurface, ReleaseAll}
-use Rattle.book.specs.Book.{emptyBook}
-use Rattle.book.specs.Owed.{noneTwice, owed}
-use Rattle.history.specs.Histories.{Start, fresh, Asked, Entry, after, history, bookAfter}
+use Rattle.book.specs.Book.{Asked, isRefused, emptyBook}
+use Rattle.book.specs.Notes.{changes}
+use Rattle.book.specs.Owed.{isSamePressOf, isSameRelease, isAmong, noneTwice, owedPresses, owed}
+use Rattle.history.specs.Histories.{Start, fresh, call, toldOf, releasesIn, Entry, after, history, bookAfter}
 
 -- an accepted start: any limits, first revision and first generation that document 01 does not refuse
 pub record Accepts (s : Start) : Type 0 where
@@ -38,41 +39,64 @@ closedBy (Arbitrate a) = none
 closedBy (Router call) = none
 closedBy (Read call) = none
 
-abbrev pub closedIf : Bool → Call → Option GenerationalHandle
-closedIf true c = closedBy c
-closedIf false c = none
-
 -- the panel that an accepted call closed
 abbrev pub closedIn : Entry → Option GenerationalHandle
-closedIn e = closedIf (eqb (e .told .number) 0) (e .call)
+closedIn e = cond (isRefused (e .told)) none (closedBy (e .asked .call))
 
--- the next call, if there is one, releases that panel in the router, alone or with all
+-- document 01, Book: "Hit tests alter neither state and stand outside", as do all reads
+abbrev pub isRead : Call → Bool
+isRead (Panel call) = false
+isRead (Input call) = false
+isRead (ReleaseDevice a) = false
+isRead (Shortcut call) = false
+isRead (Arbitrate a) = false
+isRead (Close call) = false
+isRead (Router call) = false
+isRead (Read call) = true
+
+-- the next call but for reads, if there is one, releases that panel in the router, alone or with all
 abbrev pub ReleasedNext : Option GenerationalHandle → List Entry → Type 0
 ReleasedNext none es = Unit {0}
 ReleasedNext (some h) [] = Unit {0}
-ReleasedNext (some h) (e ∷ es) = (e .call ≡ Router (ReleaseSurface h)) ⊎ (e .call ≡ Router ReleaseAll)
+ReleasedNext (some h) (e ∷ es) =
+    ((isRead (e .asked .call) ≡ true) × ReleasedNext (some h) es)
+    ⊎ ((e .asked .call ≡ Router (ReleaseSurface h)) ⊎ (e .asked .call ≡ Router ReleaseAll))
 
-pub record Fits (e : Entry) (es : List Entry) : Type 0 where
-  pub no-shutdown : e .call ≡ Close Shutdown → ⊥
+-- what is asked of a call, with those after it
+pub record CallPremises (e : Entry) (es : List Entry) : Type 0 where
+  pub no-shutdown : e .asked .call ≡ Close Shutdown → ⊥
   pub not-21 : e .told .number ≡ 21 → ⊥
   pub not-22 : e .told .number ≡ 22 → ⊥
   pub released-next : ReleasedNext (closedIn e) es
 
-abbrev pub Kept : List Entry → Type 0
-Kept [] = Unit {0}
-Kept (e ∷ es) = Fits e es × Kept es
+abbrev pub Premises : List Entry → Type 0
+Premises [] = Unit {0}
+Premises (e ∷ es) = CallPremises e es × Premises es
 
 -- ---- the claim
+-- wherever in the list a call stands: what it was and answered, and the calls before it
+abbrev pub Anywhere : Start → List Asked → (List Entry → Entry → Type 0) → Type 0
+Anywhere s l P = (before : List Entry) (e : Entry) (later : List Entry) → history l (fresh s) ≡ before ++ (e ∷ later) → P before e
+
 pub record NothingLost (s : Start) (l : List Asked) : Type 0 where
-  -- wherever in the list a call stands, its releases are those that the book owes there, in document 01's order
-  pub listed : (before : List Entry) (e : Entry) (later : List Entry) → history l (fresh s) ≡ before ++ (e ∷ later) → e .listed ≡ owed (e .call) (e .told) (bookAfter before emptyBook)
-  -- and none of them stands there twice
-  pub once : (before : List Entry) (e : Entry) (later : List Entry) → history l (fresh s) ≡ before ++ (e ∷ later) → noneTwice (e .listed) ≡ true
-  -- after the list the router holds exactly the open presses, each with its panel
-  pub held : pressesOf (after l (fresh s) .router) ≡ bookAfter (history l (fresh s)) emptyBook .presses
+  -- the releases of a call are those that the book owes there, in document 01's order
+  pub listed : Anywhere s l (λ before e. e .listed ≡ owed (e .asked) (e .told) (bookAfter before emptyBook))
+  -- each once: no release stands there twice
+  pub once : Anywhere s l (λ before e. noneTwice isSameRelease (e .listed) ≡ true)
+  -- and of the part that comes from the book's presses no press is listed with two panels
+  pub one-panel : Anywhere s l (λ before e. noneTwice isSamePressOf (owedPresses (e .asked) (e .told) (bookAfter before emptyBook)) ≡ true)
+  -- after every call the router holds exactly the open presses, each with its panel
+  pub held : (before later : List Asked) → l ≡ before ++ later
+      → pressesOf (after before (fresh s) .router) ≡ bookAfter (history before (fresh s)) emptyBook .presses
+  -- no other press changes: one that a call neither opens, moves, ends nor lists stands after it with the same panel
+  pub others-stay : (before : List Asked) (x : Asked) (later : List Asked) → l ≡ before ++ (x ∷ later)
+      → (y : Binding) → isAmong y (pressesOf (after before (fresh s) .router)) ≡ true
+      → changes x (toldOf (call (after before (fresh s)) x .answer)) (y .key) ≡ false
+      → isAmong y (releasesIn (call (after before (fresh s)) x .answer)) ≡ false
+      → isAmong y (pressesOf (call (after before (fresh s)) x .counter .router)) ≡ true
 
 pub record Demand3 : Type 0 where
-  pub nothing-lost : (s : Start) → Accepts s → (l : List Asked) → Kept (history l (fresh s)) → NothingLost s l
+  pub nothing-lost : (s : Start) → Accepts s → (l : List Asked) → Premises (history l (fresh s)) → NothingLost s l
 
 -- ---- beside it, without any premise: no list of calls leads to a counter that the damage test rejects
 pub record NeverDamaged : Type 0 where

@@ -10,12 +10,11 @@ use Rattle.records.specs.Traces.{deliveries}
 use Rattle.input_events.specs.RouterErrors.{routerNumberOf}
 use Rattle.release_lists.specs.Releases.{releases}
 use Rattle.input_router.specs.Router.{started as routerStarted}
-use Rattle.calls.specs.declared.call.Call.{Call}
-use Rattle.calls.specs.declared.call.Lists.{Lists}
-use Rattle.book.specs.Book.{Told, Book}
+use Rattle.book.specs.Book.{Asked, Told, Book}
 use Rattle.book.specs.Notes.{note}
 use Rattle.counter.specs.declared.answer.Answer.{Answer}
 use Rattle.counter.specs.declared.step.Counter.{Counter}
+use Rattle.counter.specs.declared.step.Stepped.{Stepped}
 use Rattle.counter.specs.Step.{stepped}
 
 -- document 01, Start: session, epoch, limits, first revision, first slot generation, and the router's limit
@@ -33,10 +32,9 @@ fresh s = record {
   router = routerStarted (s .bindings) .router;
 }
 
--- a call, with the hits and registrations handed in beside it
-pub record Asked : Type 0 where
-  pub call : Call
-  pub lists : Lists
+-- a call with its lists on a counter: `stepped` is the definition that `step` is proved equal to
+abbrev pub call : Counter → Asked → Stepped
+call c x = stepped c (x .call) (x .lists)
 
 -- what the book is told of an answer: number, handle, consumer, deliveries
 abbrev pub toldOf : Answer → Told
@@ -51,25 +49,25 @@ toldOf a = record {
 abbrev pub releasesIn : Answer → List Binding
 releasesIn a = entriesOf releases (a .report .«synthesized_releases»)
 
--- a call that was made, what the book is told of it, and the releases that it listed
+-- a call that was made with what was handed in beside it, what the book is told of it, and the releases that it listed
 pub record Entry : Type 0 where
-  pub call : Call
+  pub asked : Asked
   pub told : Told
   pub listed : List Binding
 
-abbrev pub entryOf : Call → Answer → Entry
-entryOf c a = record { call = c; told = toldOf a; listed = releasesIn a }
+abbrev pub entryOf : Asked → Answer → Entry
+entryOf x a = record { asked = x; told = toldOf a; listed = releasesIn a }
 
 -- each call is given the counter that the last one left
 unfoldable pub after : List Asked → Counter → Counter
 after [] c = c
-after (x ∷ xs) c = after xs (stepped c (x .call) (x .lists) .counter)
+after (x ∷ xs) c = after xs (call c x .counter)
 
 unfoldable pub history : List Asked → Counter → List Entry
 history [] c = []
-history (x ∷ xs) c = entryOf (x .call) (stepped c (x .call) (x .lists) .answer) ∷ history xs (stepped c (x .call) (x .lists) .counter)
+history (x ∷ xs) c = entryOf x (call c x .answer) ∷ history xs (call c x .counter)
 
 -- the book after a list of calls with their answers
 unfoldable pub bookAfter : List Entry → Book → Book
 bookAfter [] b = b
-bookAfter (e ∷ es) b = bookAfter es (note (e .call) (e .told) b)
+bookAfter (e ∷ es) b = bookAfter es (note (e .asked) (e .told) b)

@@ -6,7 +6,7 @@ use lib.Dec.{eqb}
 use lib.ListN.{length}
 use Rattle.call_numbers.specs.Calls.{callAt}
 use Rattle.counter_memory.specs.declared.memory.CounterMemory.{CounterMemory}
-use Rattle.history.specs.Histories.{Asked}
+use Rattle.book.specs.Book.{Asked}
 use Rattle.in_place_history.specs.Entries.{noLists}
 use Rattle.host_message.specs.declared.message.Message.{Message}
 use Rattle.host_message.specs.Messages.{isMessage, listsOf}

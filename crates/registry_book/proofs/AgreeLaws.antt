@@ -84,9 +84,9 @@ module _ (r after : CompositionRegistry) (b b′ : Book) (a : Agrees r b) (same 
 
   pub views-follow : heldIn (after .views) ≡ b′ .captures → b′ .homes ≡ b .homes → all (isHeldWell r) (b′ .captures) ≡ true
       → LayersStay (r .views) (after .views) → AllMapped (after .views) → Follows r after b′
-  views-follow held homes well stay mapped = record {
+  views-follow has homes well stay mapped = record {
     agrees = record {
-      captures-held = held;
+      captures-held = has;
       homes-known = λ h o. ap (homeOf h) homes ∙ a .homes-known h (sym (same .status h) ∙ o) ∙ ap (λ (v : GenerationalHandle). some v) (sym (same .view h));
       held-well = all-as (isHeldWell r) (isHeldWell after) still-well (b′ .captures) well;
       layered = λ h o.

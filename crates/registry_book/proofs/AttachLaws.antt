@@ -46,7 +46,7 @@ use Rattle.composition_soundness.proofs.ListLaws.{all-as, entries-few}
 use Rattle.composition_soundness.proofs.LiveLaws.{one-live, used-few, may-issue, not-issued, keeps-live, others-live}
 use Rattle.composition_soundness.proofs.PartLaws.{Parts, bounds}
 use Rattle.composition_soundness.proofs.ChangeLaws.{view-of}
-use Rattle.book.specs.Book.{Held, Home, Book, viewOfHome, homeOf, attached as noted}
+use Rattle.book.specs.Book.{Held, Home, Book, viewOfHome, homeOf, withHome as noted}
 use Rattle.book.specs.Notes.{notedAttach}
 use Rattle.registry_book.specs.Agreement.{isOpen, viewOf, isHeldWell, Agrees, Follows}
 use Rattle.registry_book.proofs.HeldLaws.{apart}

@@ -39,7 +39,8 @@ use Rattle.composition_soundness.proofs.CaseLaws.{then-first, status-live, live
 use Rattle.composition_soundness.proofs.ListLaws.{all-keep}
 use Rattle.composition_soundness.proofs.PartLaws.{Parts}
 use Rattle.composition_soundness.proofs.ChangeLaws.{view-of}
-use Rattle.book.specs.Book.{Book, withCaptures, heldKey, heldLt, held, isHeldInView, isHeldOnPanel, isHeldBoth, capturedIn, captured, dropCaptures}
+use Rattle.book.specs.Book.{Book, withCaptures, captureIn, isHeldInView, isHeldOnPanel, withoutCaptures}
+use Rattle.registry_book.specs.MapTests.{mapPlace, placeLt, isMapEntry, capturedIn, captured}
 use Rattle.registry_book.specs.Agreement.{viewOf, inView, heldIn, isHeldWell, Agrees, Follows}
 use Rattle.registry_book.proofs.ListLaws.{all-every, keep-every, keep-nothing, insert-map, found-removed}
 use Rattle.registry_book.proofs.HeldLaws.{apart, heldOf, all-held, held-inserted}
@@ -77,28 +78,28 @@ module _ (r : CompositionRegistry) (p : Parts r) (b : Book) (a : Agrees r b) whe
         (λ g s m. found-packed (pointerKey primary) (insert captureKey keyLt (capture q h) entries)
         ∙ table.claims captureKey .find-insert-other (pointerKey primary) (capture q h) entries s ∙ a .single-mapped view g (ap isLive live) m)
 
-    same-order : (x y : Capture) → heldLt (heldKey (inView view x)) (heldKey (inView view y)) ≡ keyLt (captureKey x) (captureKey y)
+    same-order : (x y : Capture) → placeLt (mapPlace (inView view x)) (mapPlace (inView view y)) ≡ keyLt (captureKey x) (captureKey y)
     same-order x y = ap (λ (s : Bool). cond s (keyLt (captureKey x) (captureKey y)) (handleLt view view)) (handles .same-refl view)
 
-    taken-held : heldIn (withView view (capturedView q h old) (r .views)) ≡ insert heldKey heldLt (held view q h) (b .captures)
+    taken-held : heldIn (withView view (capturedView q h old) (r .views)) ≡ insert mapPlace placeLt (captureIn view q h) (b .captures)
     taken-held = held-inserted (r .views) (neat-views r p) view live (capturedView q h old) (capture q h)
         (ap (λ (x : ViewRecord). map (inView view) (entriesOf captures (x .«pointer_captures»))) (record-own r p view live (capturedView q h old))
         ∙ ap (λ (t : PointerCaptures). map (inView view) (entriesOf captures t)) (new-captures (isPrimary q) (O.Some h) taken old)
         ∙ ap (map (inView view)) (entries-packed captures (insert captureKey keyLt (capture q h) entries))
-        ∙ sym (insert-map (inView view) captureKey keyLt heldKey heldLt same-order (capture q h) entries))
-        ∙ ap (insert heldKey heldLt (held view q h)) (a .captures-held)
+        ∙ sym (insert-map (inView view) captureKey keyLt mapPlace placeLt same-order (capture q h) entries))
+        ∙ ap (insert mapPlace placeLt (captureIn view q h)) (a .captures-held)
 
-    taken-well : all (isHeldWell r) (insert heldKey heldLt (held view q h) (b .captures)) ≡ true
+    taken-well : all (isHeldWell r) (insert mapPlace placeLt (captureIn view q h) (b .captures)) ≡ true
     taken-well =
-        all-append (isHeldWell r) (keep (λ x. heldLt (heldKey x) (heldKey (held view q h))) (b .captures)) _
-        ∙ and-both (all-keep (isHeldWell r) (λ x. heldLt (heldKey x) (heldKey (held view q h))) (b .captures) (a .held-well))
-        (and-both (and-both (ap isLive o) (handles .same-refl view)) (all-keep (isHeldWell r) (λ x. heldLt (heldKey (held view q h)) (heldKey x)) (b .captures) (a .held-well)))
+        all-append (isHeldWell r) (keep (λ x. placeLt (mapPlace x) (mapPlace (captureIn view q h))) (b .captures)) _
+        ∙ and-both (all-keep (isHeldWell r) (λ x. placeLt (mapPlace x) (mapPlace (captureIn view q h))) (b .captures) (a .held-well))
+        (and-both (and-both (ap isLive o) (handles .same-refl view)) (all-keep (isHeldWell r) (λ x. placeLt (mapPlace (captureIn view q h)) (mapPlace x)) (b .captures) (a .held-well)))
 
     taken-follows : Follows r (withViewRecord view (capturedView q h old) r) (captured q h b)
     unfolding captured
     taken-follows = subst (Follows r (withViewRecord view (capturedView q h old) r)) (sym (ap (λ (m : Option GenerationalHandle). capturedIn m q h b) (a .homes-known h (ap isLive o))))
         (view-follows r p b a view live (capturedView q h old) (old-layers (isPrimary q) (O.Some h) taken old) taken-mapped
-        (withCaptures (insert heldKey heldLt (held view q h) (b .captures)) b) taken-held refl taken-well)
+        (withCaptures (insert mapPlace placeLt (captureIn view q h) (b .captures)) b) taken-held refl taken-well)
 
     -- ---- a release of a pointer that the panel has
     abbrev left : PointerCaptures
@@ -111,11 +112,11 @@ module _ (r : CompositionRegistry) (p : Parts r) (b : Book) (a : Agrees r b) whe
         ∙ table.claims captureKey .find-remove-other (pointerKey primary) (pointerKey q) entries s ∙ a .single-mapped view g (ap isLive live) m)
 
     left-follows : (c : Capture) → found captures captureKey (pointerKey q) (old .«pointer_captures») ≡ some c → sameHandle h (c .surface) ≡ true
-        → Follows r (withViewRecord view (releasedView q old) r) (dropCaptures (isHeldBoth q h) b)
-    left-follows c f s = view-drops r p b a view live (releasedView q old) (old-layers (isPrimary q) O.None left old) left-mapped (isHeldBoth q h)
+        → Follows r (withViewRecord view (releasedView q old) r) (withoutCaptures (isMapEntry q h) b)
+    left-follows c f s = view-drops r p b a view live (releasedView q old) (old-layers (isPrimary q) O.None left old) left-mapped (isMapEntry q h)
         (ap (entriesOf captures) (new-captures (isPrimary q) O.None left old) ∙ entries-packed captures (remove captureKey keySame (pointerKey q) entries)
         ∙ found-removed captureKey table.keys (λ x. sameHandle h (x .surface)) (pointerKey q) c entries (view-of r p view live .captured .rise) f s)
-        (others-stay r p b a (isHeldBoth q h) h (λ x y. and-right (keySame (pointerKey q) (captureKey (x .capture))) (isHeldOnPanel h x) y))
+        (others-stay r p b a (isMapEntry q h) h (λ x y. and-right (keySame (pointerKey q) (captureKey (x .capture))) (isHeldOnPanel h x) y))
 
   pub capture-for : (q : CompositionPointerId) (h : GenerationalHandle) (n : ℕ) → capturePointerFor r q h n .outcome ≡ Accepted → Follows r (capturePointerFor r q h n .registry) (captured q h b)
   unfolding capturePointerFor
@@ -128,26 +129,26 @@ module _ (r : CompositionRegistry) (p : Parts r) (b : Book) (a : Agrees r b) whe
 
   -- the map has the panel for the pointer
   pub release-for : (q : CompositionPointerId) (h : GenerationalHandle) (n : ℕ) → releasePointerFor r q h n .outcome ≡ Accepted
-      → Follows r (releasePointerFor r q h n .registry) (dropCaptures (isHeldBoth q h) b)
+      → Follows r (releasePointerFor r q h n .registry) (withoutCaptures (isMapEntry q h) b)
   unfolding releasePointerFor
-  release-for q h n y = follows (dropCaptures (isHeldBoth q h) b) (releaseForRefusal r q h n) r _ y (λ o.
+  release-for q h n y = follows (withoutCaptures (isMapEntry q h) b) (releaseForRefusal r q h n) r _ y (λ o.
       let has = not-false (holdsHandle (surfaceOf (found captures captureKey (pointerKey q) (ownRecord r h .«pointer_captures»))) h) (if-accepted _ NotInteractive (then-last (ownerRefusal r h n) _ o)) in
       go (owner h n (then-first (ownerRefusal r h n) _ o)) (found captures captureKey (pointerKey q) (ownRecord r h .«pointer_captures»)) refl has)
     where
       go : surfaceStatus (r .surfaces) h ≡ Live → (m : Option Capture) → found captures captureKey (pointerKey q) (ownRecord r h .«pointer_captures») ≡ m → holdsHandle (surfaceOf m) h ≡ true
-          → Follows r (withViewRecord (ownView r h) (releasedView q (ownRecord r h)) r) (dropCaptures (isHeldBoth q h) b)
+          → Follows r (withViewRecord (ownView r h) (releasedView q (ownRecord r h)) r) (withoutCaptures (isMapEntry q h) b)
       go o none f t = clash t refl
       go o (some c) f t = left-follows q h o c f (ap (sameHandle h) (handles .same-eq (c .surface) h t) ∙ handles .same-refl h)
 
   -- the single field has the panel, so the map has it for PRIMARY
-  pub release : (h : GenerationalHandle) (n : ℕ) → releasePointer r h n .outcome ≡ Accepted → Follows r (releasePointer r h n .registry) (dropCaptures (isHeldBoth primary h) b)
+  pub release : (h : GenerationalHandle) (n : ℕ) → releasePointer r h n .outcome ≡ Accepted → Follows r (releasePointer r h n .registry) (withoutCaptures (isMapEntry primary h) b)
   unfolding releasePointer
-  release h n y = follows (dropCaptures (isHeldBoth primary h) b) (releaseRefusal r h n) r _ y (λ o.
+  release h n y = follows (withoutCaptures (isMapEntry primary h) b) (releaseRefusal r h n) r _ y (λ o.
       let has = not-false (holdsHandle (ownRecord r h .«pointer_capture») h) (if-accepted _ NotInteractive (then-last (ownerRefusal r h n) _ o)) in
       go (owner h n (then-first (ownerRefusal r h n) _ o)) (ownRecord r h .«pointer_capture») refl has)
     where
       go : surfaceStatus (r .surfaces) h ≡ Live → (m : OptionalHandle) → ownRecord r h .«pointer_capture» ≡ m → holdsHandle m h ≡ true
-          → Follows r (withViewRecord (ownView r h) (releasedView primary (ownRecord r h)) r) (dropCaptures (isHeldBoth primary h) b)
+          → Follows r (withViewRecord (ownView r h) (releasedView primary (ownRecord r h)) r) (withoutCaptures (isMapEntry primary h) b)
       go o O.None f t = clash t refl
       go o (O.Some g) f t = left-follows primary h o (capture primary h)
           (a .single-mapped (ownView r h) h (ap isLive (own-live h o)) (f ∙ ap (λ (x : GenerationalHandle). O.Some x) (handles .same-eq g h t))) (handles .same-refl h)
@@ -157,12 +158,12 @@ module _ (r : CompositionRegistry) (p : Parts r) (b : Book) (a : Agrees r b) whe
     abbrev before : List Capture
     before = entriesOf captures (viewAt (r .views) v .«pointer_captures»)
 
-    suspended-follows : Follows r (withViewRecord v (suspendedView (viewAt (r .views) v)) r) (dropCaptures (isHeldInView v) b)
+    suspended-follows : Follows r (withViewRecord v (suspendedView (viewAt (r .views) v)) r) (withoutCaptures (isHeldInView v) b)
     suspended-follows = view-drops r p b a v e (suspendedView (viewAt (r .views) v)) refl (λ h q. none≢some q) (isHeldInView v)
         (entries-packed captures [] ∙ sym (keep-nothing (λ c. not (isHeldInView v (inView v c))) before (all-every _ (λ c. ap (λ (s : Bool). not (not s)) (handles .same-refl v)) before)))
         (λ g l n. keep-every (λ x. not (isHeldInView v x)) (heldOf (r .views) g) (all-held (r .views) (λ x. not (isHeldInView v x)) g (λ c. ap not (apart g v n))))
 
-  pub suspend : (v : GenerationalHandle) (n : ℕ) → suspendViewInput r v n .outcome ≡ Accepted → Follows r (suspendViewInput r v n .registry) (dropCaptures (isHeldInView v) b)
+  pub suspend : (v : GenerationalHandle) (n : ℕ) → suspendViewInput r v n .outcome ≡ Accepted → Follows r (suspendViewInput r v n .registry) (withoutCaptures (isHeldInView v) b)
   unfolding suspendViewInput
-  suspend v n y = follows (dropCaptures (isHeldInView v) b) (suspendRefusal r v n) r _ y (λ o.
+  suspend v n y = follows (withoutCaptures (isHeldInView v) b) (suspendRefusal r v n) r _ y (λ o.
       suspended-follows v (status-live (viewStatus (r .views) v) InvalidView StaleView (then-last (entryRefusal r n) _ o)))

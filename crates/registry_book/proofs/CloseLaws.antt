@@ -40,7 +40,7 @@ use Rattle.composition_soundness.proofs.ListLaws.{all-as, all-both, all-keep}
 use Rattle.composition_soundness.proofs.LiveLaws.{was-live, stays-live}
 use Rattle.composition_soundness.proofs.PartLaws.{Parts}
 use Rattle.composition_soundness.proofs.ChangeLaws.{view-of}
-use Rattle.book.specs.Book.{Held, Book, isHeldOnPanel, dropCaptures}
+use Rattle.book.specs.Book.{Held, Book, isHeldOnPanel, withoutCaptures}
 use Rattle.registry_book.specs.Agreement.{isOpen, viewOf, heldIn, isHeldWell, Agrees, KeepsBut}
 use Rattle.registry_book.proofs.HeldLaws.{apart}
 use Rattle.registry_book.proofs.AgreeLaws.{settled-as, agrees-again, layersAt, Mapped}
@@ -71,7 +71,7 @@ module _ (r : CompositionRegistry) (p : Parts r) (b : Book) (a : Agrees r b) (h 
   after = closedPanel h r
 
   abbrev left : Book
-  left = dropCaptures (isHeldOnPanel h) b
+  left = withoutCaptures (isHeldOnPanel h) b
 
   module _ (o : lookupOf (r .surfaces .arena) h ≡ Live) (gone : exhaustedRefusal (released (r .surfaces .arena) h .outcome) ≡ Accepted) where
     live : lookupOf (r .views .arena) view ≡ Live
@@ -132,7 +132,7 @@ module _ (r : CompositionRegistry) (p : Parts r) (b : Book) (a : Agrees r b) (h 
 
     -- ---- the book agrees
     closed-agrees : Agrees after left
-    unfolding freed detached dropCaptures
+    unfolding freed detached withoutCaptures
     closed-agrees = record {
       captures-held = left-held;
       homes-known = λ g l. a .homes-known g (was-open g l);
@@ -160,6 +160,6 @@ module _ (r : CompositionRegistry) (p : Parts r) (b : Book) (a : Agrees r b) (h 
       (closed-agrees o s, closed-keeps o s))
   close-after (Refused e) q y = refused≢accepted y
 
-  pub close : closeSurface r h .outcome ≡ Accepted → Agrees (closeSurface r h .registry) (dropCaptures (isHeldOnPanel h) b) × KeepsBut h r (closeSurface r h .registry)
+  pub close : closeSurface r h .outcome ≡ Accepted → Agrees (closeSurface r h .registry) (withoutCaptures (isHeldOnPanel h) b) × KeepsBut h r (closeSurface r h .registry)
   unfolding closeSurface
   close y = close-after (closeRefusal r h) refl y

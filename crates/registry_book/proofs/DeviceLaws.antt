@@ -40,7 +40,8 @@ use Rattle.composition_soundness.proofs.ListLaws.{all-keep}
 use Rattle.composition_soundness.proofs.PartLaws.{Parts}
 use Rattle.composition_soundness.proofs.ChangeLaws.{CaptureParts, view-of}
 use Rattle.composition_soundness.proofs.WindowLaws.{all-slots, views-few}
-use Rattle.book.specs.Book.{Held, Book, withCaptures, isHeldByDevice, isHeldInView, dropCaptures}
+use Rattle.book.specs.Book.{Held, Book, withCaptures, isHeldInView, withoutCaptures}
+use Rattle.registry_book.specs.MapTests.{isOfMapDevice}
 use Rattle.registry_book.specs.Agreement.{inView, heldAt, heldIn, isHeldWell, Agrees, Follows}
 use Rattle.registry_book.specs.Claims.{captureOf}
 use Rattle.registry_book.proofs.ListLaws.{keep-rest, keep-map, map-back}
@@ -65,7 +66,7 @@ module _ (value generation : ℕ) where
   device = record { value = value; generation = generation }
 
   abbrev isTaken : Held → Bool
-  isTaken = isHeldByDevice device
+  isTaken = isOfMapDevice device
 
   taken-slot : (t : ViewTable) (i : ℕ) → map captureOf (keep isTaken (heldAt t i)) ≡ takenAt t value generation i
   taken-slot t i =
@@ -81,7 +82,7 @@ module _ (value generation : ℕ) where
       ap (map captureOf) (gather-keep isTaken (heldAt t) (viewSlots t)) ∙ gather-map captureOf (λ i. keep isTaken (heldAt t i)) (viewSlots t)
       ∙ gather-same (λ i. map captureOf (keep isTaken (heldAt t i))) (takenAt t value generation) (viewSlots t) (λ i l. taken-slot t i)
 
-  pub device-list : (r : CompositionRegistry) (b : Book) → Agrees r b → deviceCaptures (r .views) value generation ≡ map captureOf (keep (isHeldByDevice (record { value = value; generation = generation })) (b .captures))
+  pub device-list : (r : CompositionRegistry) (b : Book) → Agrees r b → deviceCaptures (r .views) value generation ≡ map captureOf (keep (isOfMapDevice (record { value = value; generation = generation })) (b .captures))
   device-list r b a = sym (taken-all (r .views)) ∙ ap (λ (l : List Held). map captureOf (keep isTaken l)) (a .captures-held)
 
   -- ---- a view without the device's captures
@@ -163,9 +164,9 @@ module _ (value generation : ℕ) where
     record-left : (h : GenerationalHandle) → lookupOf (r .views .arena) h ≡ Live → viewAt after h ≡ leftView value generation (viewAt (r .views) h)
     record-left h e = all-cleared .done h e (subst (λ (n : ℕ). h .index < n) (sym (all-slots (r .views) (views-few r p))) (live-facts (r .views .arena) h e .used))
 
-    left-follows : Follows r (withViews after r) (dropCaptures isTaken b)
-    unfolding dropCaptures
-    left-follows = views-follow r (withViews after r) b (dropCaptures isTaken b) a (record { status = λ h. refl; view = λ h. refl })
+    left-follows : Follows r (withViews after r) (withoutCaptures isTaken b)
+    unfolding withoutCaptures
+    left-follows = views-follow r (withViews after r) b (withoutCaptures isTaken b) a (record { status = λ h. refl; view = λ h. refl })
         (held-kept (r .views) after (λ x. not (isTaken x)) (record {
           kept = λ h e l. ap (λ (x : ViewRecord). map (inView h) (entriesOf captures (x .«pointer_captures»))) (record-left h e) ∙ left-held h (viewAt (r .views) h);
           fresh = λ h n l. absurd (n (was-live h l));
@@ -182,18 +183,18 @@ module _ (value generation : ℕ) where
         subst Mapped (sym (record-left g e)) (left-mapped (viewAt (r .views) g) (view-of r p g e .captured) (λ h q. a .single-mapped g h (ap isLive e) q)))
 
     -- where the list is empty the book has no capture of the device either
-    none-taken : length (deviceCaptures (r .views) value generation) ≡ 0 → Follows r r (dropCaptures isTaken b)
-    unfolding dropCaptures
+    none-taken : length (deviceCaptures (r .views) value generation) ≡ 0 → Follows r r (withoutCaptures isTaken b)
+    unfolding withoutCaptures
     none-taken z = subst (Follows r r) (sym (ap (λ (l : List Held). withCaptures l b) (keep-rest isTaken (b .captures) (sym (ap length (device-list r b a) ∙ length-map (keep isTaken (b .captures)) captureOf) ∙ z))))
         (record { agrees = a; keeps = record { stays = λ h o. (o, refl) } })
 
     by-list : (s : Bool) → eqb (length (deviceCaptures (r .views) value generation)) 0 ≡ s
         → cond s (answered (deviceRefusal r value generation) r) (settled (deviceRefusal r value generation) r (withViews after r)) .outcome ≡ Accepted
-        → Follows r (cond s (answered (deviceRefusal r value generation) r) (settled (deviceRefusal r value generation) r (withViews after r)) .registry) (dropCaptures isTaken b)
+        → Follows r (cond s (answered (deviceRefusal r value generation) r) (settled (deviceRefusal r value generation) r (withViews after r)) .registry) (withoutCaptures isTaken b)
     by-list true z y = none-taken (eqb-true _ 0 z)
-    by-list false z y = follows (dropCaptures isTaken b) (deviceRefusal r value generation) r (withViews after r) y (λ o. left-follows)
+    by-list false z y = follows (withoutCaptures isTaken b) (deviceRefusal r value generation) r (withViews after r) y (λ o. left-follows)
 
     pub release-device : releaseDevicePointerCaptures r value generation .outcome ≡ Accepted
-        → Follows r (releaseDevicePointerCaptures r value generation .registry) (dropCaptures (isHeldByDevice (record { value = value; generation = generation })) b)
+        → Follows r (releaseDevicePointerCaptures r value generation .registry) (withoutCaptures (isOfMapDevice (record { value = value; generation = generation })) b)
     unfolding releaseDevicePointerCaptures
     release-device y = by-list (eqb (length (deviceCaptures (r .views) value generation)) 0) refl y

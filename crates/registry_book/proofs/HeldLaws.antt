@@ -28,7 +28,8 @@ use Rattle.records.specs.Views.{noView, viewAt, viewStatus, withView}
 use Rattle.composition_soundness.proofs.CaseLaws.{either, live-is}
 use Rattle.composition_soundness.proofs.LiveLaws.{one-live, used-few, filled-live}
 use Rattle.composition_soundness.proofs.WindowLaws.{all-slots}
-use Rattle.book.specs.Book.{Held, heldKey, heldLt, isHeldInView}
+use Rattle.book.specs.Book.{Held, isHeldInView}
+use Rattle.registry_book.specs.MapTests.{mapPlace, placeLt}
 use Rattle.registry_book.specs.Agreement.{inView, heldAt, heldIn}
 use Rattle.registry_book.proofs.ListLaws.{all-every, keep-every, keep-nothing, low, high, all-map}
 use Rattle.registry_book.proofs.GatherLaws.{gathered, gather-same, gather-keep, gather-at, gather-past, gather-one, gather-insert}
@@ -159,13 +160,13 @@ module _ (t after : ViewTable) (p : Held → Bool) (d : Drops t after p) where
 
 -- ---- a capture more in one view
 module _ (x y : Held) (l : x .view .index < y .view .index) where
-  held-less : heldLt (heldKey x) (heldKey y) ≡ true
+  held-less : placeLt (mapPlace x) (mapPlace y) ≡ true
   held-less = simp (ne-eqb (x .view .index) (y .view .index) (λ q. less l q), lt-ltb (x .view .index) (y .view .index) l)
     where
       less : {m n : ℕ} → m < n → m ≡ n → ⊥
       less {m} {n} l q = omega arith
 
-  held-more : heldLt (heldKey y) (heldKey x) ≡ false
+  held-more : placeLt (mapPlace y) (mapPlace x) ≡ false
   held-more = simp (ne-eqb (y .view .index) (x .view .index) (λ q. more l q), le-ltb (y .view .index) (x .view .index) (omega arith))
     where
       more : {m n : ℕ} → m < n → n ≡ m → ⊥
@@ -184,22 +185,22 @@ module _ (t : ViewTable) (n : Neat (t .arena)) (v : GenerationalHandle) (e : loo
   new = inView v c
 
   abbrev isLow : Held → Bool
-  isLow x = heldLt (heldKey x) (heldKey new)
+  isLow x = placeLt (mapPlace x) (mapPlace new)
 
   abbrev isHigh : Held → Bool
-  isHigh x = heldLt (heldKey new) (heldKey x)
+  isHigh x = placeLt (mapPlace new) (mapPlace x)
 
-  before : (i : ℕ) → i < v .index → (low heldKey heldLt new (heldSlot t i) ≡ heldSlot t i) × (high heldKey heldLt new (heldSlot t i) ≡ [])
+  before : (i : ℕ) → i < v .index → (low mapPlace placeLt new (heldSlot t i) ≡ heldSlot t i) × (high mapPlace placeLt new (heldSlot t i) ≡ [])
   before i l =
       (slot-every t isLow i (λ x. held-less (inView (viewHandle t i) x) new l), slot-nothing t isHigh i (λ x. held-more (inView (viewHandle t i) x) new l))
 
-  behind : (i : ℕ) → v .index < i → (low heldKey heldLt new (heldSlot t i) ≡ []) × (high heldKey heldLt new (heldSlot t i) ≡ heldSlot t i)
+  behind : (i : ℕ) → v .index < i → (low mapPlace placeLt new (heldSlot t i) ≡ []) × (high mapPlace placeLt new (heldSlot t i) ≡ heldSlot t i)
   behind i l =
       (slot-nothing t isLow i (λ x. held-more new (inView (viewHandle t i) x) l), slot-every t isHigh i (λ x. held-less new (inView (viewHandle t i) x) l))
 
-  pub held-inserted : heldOf after v ≡ insert heldKey heldLt (inView v c) (heldOf t v) → heldIn after ≡ insert heldKey heldLt (inView v c) (heldIn t)
+  pub held-inserted : heldOf after v ≡ insert mapPlace placeLt (inView v c) (heldOf t v) → heldIn after ≡ insert mapPlace placeLt (inView v c) (heldIn t)
   held-inserted h =
       held-slots after n
-      ∙ gather-insert heldKey heldLt new (heldSlot t) (heldSlot after) 16 (v .index) (live-few (t .arena) n v e)
-      (slot-live after v e ∙ h ∙ ap (insert heldKey heldLt new) (sym (slot-live t v e))) same-slot before behind
-      ∙ ap (insert heldKey heldLt new) (sym (held-slots t n))
+      ∙ gather-insert mapPlace placeLt new (heldSlot t) (heldSlot after) 16 (v .index) (live-few (t .arena) n v e)
+      (slot-live after v e ∙ h ∙ ap (insert mapPlace placeLt new) (sym (slot-live t v e))) same-slot before behind
+      ∙ ap (insert mapPlace placeLt new) (sym (held-slots t n))

@@ -27,7 +27,7 @@ use Rattle.composition_soundness.proofs.CaseLaws.{live-is, by-handle}
 use Rattle.composition_soundness.proofs.ListLaws.{field-kept, all-as, all-keep}
 use Rattle.composition_soundness.proofs.LiveLaws.{one-live}
 use Rattle.composition_soundness.proofs.PartLaws.{Parts, bounds}
-use Rattle.book.specs.Book.{Held, Book, dropCaptures, isHeldOnPanel}
+use Rattle.book.specs.Book.{Held, Book, withoutCaptures, isHeldOnPanel}
 use Rattle.registry_book.specs.Agreement.{isOpen, viewOf, inView, heldIn, isHeldWell, Agrees, Follows}
 use Rattle.registry_book.proofs.ListLaws.{keep-every, keep-map, all-map}
 use Rattle.registry_book.proofs.HeldLaws.{Neat, live-few, heldOf, held-at, held-kept}
@@ -95,13 +95,13 @@ module _ (r : CompositionRegistry) (p : Parts r) (b : Book) (a : Agrees r b) whe
     -- ---- the book follows
     module _ (layered : w .surfaces ≡ viewAt (r .views) v .surfaces) (mapped : Mapped w) where
       pub view-follows : (b′ : Book) → heldIn after ≡ b′ .captures → b′ .homes ≡ b .homes → all (isHeldWell r) (b′ .captures) ≡ true → Follows r (withViewRecord v w r) b′
-      view-follows b′ held homes well = views-follow r (withViewRecord v w r) b b′ a (record { status = λ h. refl; view = λ h. refl }) held homes well
+      view-follows b′ has homes well = views-follow r (withViewRecord v w r) b b′ a (record { status = λ h. refl; view = λ h. refl }) has homes well
           (λ g h l m. (l, ap (λ (t : Layers). isAmong h (entriesOf layers t)) (field-kept (λ (x : ViewRecord). x .surfaces) (r .views .records) (v .index) (g .index) w noView layered) ∙ m))
           (λ g l. each-record r p v e w Mapped g (live-is (viewStatus (r .views) g) l) mapped (λ h q. a .single-mapped g h l q))
 
       pub view-drops : (q : Held → Bool)
           → entriesOf captures (w .«pointer_captures») ≡ keep (λ c. not (q (inView v c))) (entriesOf captures (viewAt (r .views) v .«pointer_captures»))
           → ((g : GenerationalHandle) → lookupOf (r .views .arena) g ≡ Live → (g ≡ v → ⊥) → keep (λ x. not (q x)) (heldOf (r .views) g) ≡ heldOf (r .views) g)
-          → Follows r (withViewRecord v w r) (dropCaptures q b)
-      unfolding dropCaptures
-      view-drops q own others = view-follows (dropCaptures q b) (held-dropped q own others) refl (all-keep (isHeldWell r) (λ x. not (q x)) (b .captures) (a .held-well))
+          → Follows r (withViewRecord v w r) (withoutCaptures q b)
+      unfolding withoutCaptures
+      view-drops q own others = view-follows (withoutCaptures q b) (held-dropped q own others) refl (all-keep (isHeldWell r) (λ x. not (q x)) (b .captures) (a .held-well))

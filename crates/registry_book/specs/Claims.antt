@@ -1,4 +1,5 @@
 -- Document 01, Book, claimed of every call on the registry that is accepted: the book's captures and views after it are the registry's.
+-- The tests are those of the registry's maps (`MapTests`).
 use Prim.Native.Nat.{ℕ}
 use mathlib.Core.Path.{_≡_}
 use mathlib.Core.Bool.{true}
@@ -34,7 +35,8 @@ use Rattle.composition_shortcuts.specs.Register.{registerSurfaceSystemShortcutS
 use Rattle.composition_arbitration.specs.Arbitration.{arbitrated}
 use Rattle.composition_close.specs.Close.{closeSurface}
 use Rattle.composition_soundness.specs.Claims.{Undamaged}
-use Rattle.book.specs.Book.{Held, Book, emptyBook, captured, dropCaptures, isHeldByDevice, isHeldInView, isHeldOnPanel, isHeldBoth}
+use Rattle.book.specs.Book.{Held, Book, emptyBook, withoutCaptures, isHeldInView, isHeldOnPanel}
+use Rattle.registry_book.specs.MapTests.{captured, isOfMapDevice, isMapEntry}
 use Rattle.book.specs.Notes.{notedAttach}
 use Rattle.registry_book.specs.Agreement.{isOpen, Agrees, KeepsBut, Follows}
 
@@ -63,17 +65,17 @@ pub record RegistryBookClaims : Type 0 where
   -- "Capture gives the panel the pointer in the panel's view"
   pub capture : (r : CompositionRegistry) (b : Book) (p : CompositionPointerId) (h : GenerationalHandle) (n : ℕ) → Undamaged r → Agrees r b → capturePointerFor r p h n .outcome ≡ Accepted → Follows r (capturePointerFor r p h n .registry) (captured p h b)
   -- "release of a pointer drops it if that panel has it"
-  pub release-for : (r : CompositionRegistry) (b : Book) (p : CompositionPointerId) (h : GenerationalHandle) (n : ℕ) → Undamaged r → Agrees r b → releasePointerFor r p h n .outcome ≡ Accepted → Follows r (releasePointerFor r p h n .registry) (dropCaptures (isHeldBoth p h) b)
-  pub release : (r : CompositionRegistry) (b : Book) (h : GenerationalHandle) (n : ℕ) → Undamaged r → Agrees r b → releasePointer r h n .outcome ≡ Accepted → Follows r (releasePointer r h n .registry) (dropCaptures (isHeldBoth primary h) b)
+  pub release-for : (r : CompositionRegistry) (b : Book) (p : CompositionPointerId) (h : GenerationalHandle) (n : ℕ) → Undamaged r → Agrees r b → releasePointerFor r p h n .outcome ≡ Accepted → Follows r (releasePointerFor r p h n .registry) (withoutCaptures (isMapEntry p h) b)
+  pub release : (r : CompositionRegistry) (b : Book) (h : GenerationalHandle) (n : ℕ) → Undamaged r → Agrees r b → releasePointer r h n .outcome ≡ Accepted → Follows r (releasePointer r h n .registry) (withoutCaptures (isMapEntry primary h) b)
   -- "device captures, suspend and a panel's close drop the captures of the device, view or panel"
   pub device : (r : CompositionRegistry) (b : Book) (value generation : ℕ) → Undamaged r → Agrees r b → releaseDevicePointerCaptures r value generation .outcome ≡ Accepted
-      → Follows r (releaseDevicePointerCaptures r value generation .registry) (dropCaptures (isHeldByDevice (record { value = value; generation = generation })) b)
-  pub suspend : (r : CompositionRegistry) (b : Book) (v : GenerationalHandle) (n : ℕ) → Undamaged r → Agrees r b → suspendViewInput r v n .outcome ≡ Accepted → Follows r (suspendViewInput r v n .registry) (dropCaptures (isHeldInView v) b)
+      → Follows r (releaseDevicePointerCaptures r value generation .registry) (withoutCaptures (isOfMapDevice (record { value = value; generation = generation })) b)
+  pub suspend : (r : CompositionRegistry) (b : Book) (v : GenerationalHandle) (n : ℕ) → Undamaged r → Agrees r b → suspendViewInput r v n .outcome ≡ Accepted → Follows r (suspendViewInput r v n .registry) (withoutCaptures (isHeldInView v) b)
   pub close : (r : CompositionRegistry) (b : Book) (h : GenerationalHandle) → Undamaged r → Agrees r b → closeSurface r h .outcome ≡ Accepted
-      → Agrees (closeSurface r h .registry) (dropCaptures (isHeldOnPanel h) b) × KeepsBut h r (closeSurface r h .registry)
+      → Agrees (closeSurface r h .registry) (withoutCaptures (isHeldOnPanel h) b) × KeepsBut h r (closeSurface r h .registry)
   -- the captures of a device and of a live view are the book's, in its order
   pub device-list : (r : CompositionRegistry) (b : Book) (value generation : ℕ) → Undamaged r → Agrees r b
-      → deviceCaptures (r .views) value generation ≡ map captureOf (keep (isHeldByDevice (record { value = value; generation = generation })) (b .captures))
+      → deviceCaptures (r .views) value generation ≡ map captureOf (keep (isOfMapDevice (record { value = value; generation = generation })) (b .captures))
   pub view-list : (r : CompositionRegistry) (b : Book) (v : GenerationalHandle) → Undamaged r → Agrees r b → isLive (viewStatus (r .views) v) ≡ true
       → entriesOf captures (viewAt (r .views) v .«pointer_captures») ≡ map captureOf (keep (isHeldInView v) (b .captures))
   -- who gets an event, and who takes it, is a live panel

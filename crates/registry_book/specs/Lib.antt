@@ -1,2 +1,3 @@
+pub mod MapTests
 pub mod Agreement
 pub mod Claims
