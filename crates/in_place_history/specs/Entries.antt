@@ -5,9 +5,8 @@ use Rattle.handles.specs.declared.GenerationalHandle.{GenerationalHandle}
 use Rattle.handles.specs.declared.OptionalHandle.the-variants as handle
 use Rattle.records.specs.Traces.{deliveries, hits}
 use Rattle.composition_shortcuts.specs.Register.{registrations}
-use Rattle.input_events.specs.declared.error.PlatformInputError.the-variants.{Damaged}
 use Rattle.input_events.specs.declared.event.PlatformInputEvent.{PlatformInputEvent}
-use Rattle.input_events.specs.RouterErrors.{routerNumberOf, routerRefusalIf}
+use Rattle.input_events.specs.RouterErrors.{routerNumberOf}
 use Rattle.input_route.specs.Route.{routed}
 use Rattle.release_lists.specs.Releases.{releases}
 use Rattle.input_router.specs.Releases.{releaseSurface, releaseAll}
@@ -52,7 +51,7 @@ routeEntry e a = record {
 abbrev pub releaseEntry : Call → ReleaseAnswer → Entry
 releaseEntry c a = record {
   call = c;
-  told = record { number = routerNumberOf (routerRefusalIf (a .«is_damaged») Damaged); handle = handle.None; consumer = handle.None; deliveries = [] };
+  told = record { number = routerNumberOf (a .outcome); handle = handle.None; consumer = handle.None; deliveries = [] };
   listed = entriesOf releases (a .releases);
 }
 
