@@ -115,7 +115,8 @@ unfolding routed
 event r t e h = after r t e (routeRefusal r t e) h
 
 -- ---- a router release: a damaged router lists nothing
-unlisted : (x y : Released) (b : Bool) → isRouterAccepted (cond b x y .outcome) ≡ false → x .outcome ≡ Accepted → y .releases ≡ packed releases [] → cond b x y .releases ≡ packed releases []
+unlisted : (x y : Released) (b : Bool) → isRouterAccepted (cond b x y .outcome) ≡ false → x .outcome ≡ Accepted
+    → y .releases ≡ packed releases [] → cond b x y .releases ≡ packed releases []
 unlisted x y true h f g = clash refl (simp f at h)
 unlisted x y false h f g = g
 
