@@ -95,7 +95,7 @@ kept c (Input x) l e q =
     changed-kept c (s .registry) (inputChange (c .registry) x) true (s .outcome) (input-late (c .registry) x) e q
 kept c (ReleaseDevice a) l e q =
     let s = releaseDevicePointerCaptures (c .registry) (a .device) (a .«device_generation») in
-    changed-kept c (s .registry) (deviceChange (c .registry) (a .device) (a .«device_generation»)) true (s .outcome) (device-late (c .registry) (a .device) (a .«device_generation»)) e q
+    changed-kept c (s .registry) (deviceChange (c .registry) a) true (s .outcome) (device-late (c .registry) a) e q
 kept c (Shortcut x) l e q =
     let s = shortcutStep (c .registry) x (l .registrations) in
     changed-kept c (s .registry) (shortcutChange (c .registry) x (l .registrations)) true (s .outcome) (shortcut-late (c .registry) x (l .registrations)) e q
