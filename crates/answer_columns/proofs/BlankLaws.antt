@@ -19,12 +19,11 @@ use Rattle.composition_input.specs.Captures.{releaseDevicePointerCaptures}
 use Rattle.composition_input.specs.Focus.{suspendViewInput}
 use Rattle.composition_arbitration.specs.declared.arbitrate.Arbitrated.{Arbitrated}
 use Rattle.composition_arbitration.specs.Arbitration.{concluded, arbitrated}
-use Rattle.input_events.specs.declared.error.PlatformInputError.the-variants.{Damaged}
 use Rattle.input_events.specs.declared.error.RouterOutcome.{RouterOutcome}
 use Rattle.input_events.specs.declared.error.RouterOutcome.the-variants.{Accepted, Refused}
 use Rattle.input_events.specs.declared.event.PlatformInputEvent.{PlatformInputEvent}
 use Rattle.input_events.specs.ArbitrationEvents.{arbitrationEvent, isLoss, isDisconnect}
-use Rattle.input_events.specs.RouterErrors.{isRouterAccepted, routerRefusalIf, fromComposition}
+use Rattle.input_events.specs.RouterErrors.{isRouterAccepted, fromComposition}
 use Rattle.release_lists.specs.declared.releases.Releases.{Releases}
 use Rattle.input_router.specs.declared.releases.Released.{Released}
 use Rattle.input_router.specs.declared.view_releases.ViewReleased.{ViewReleased}
@@ -116,7 +115,8 @@ unfolding routed
 event r t e h = after r t e (routeRefusal r t e) h
 
 -- ---- a router release: a damaged router lists nothing
-unlisted : (x y : Released) (b : Bool) → isRouterAccepted (routerRefusalIf (cond b x y .«is_damaged») Damaged) ≡ false → x .«is_damaged» ≡ false → y .releases ≡ packed releases [] → cond b x y .releases ≡ packed releases []
+unlisted : (x y : Released) (b : Bool) → isRouterAccepted (cond b x y .outcome) ≡ false → x .outcome ≡ Accepted
+    → y .releases ≡ packed releases [] → cond b x y .releases ≡ packed releases []
 unlisted x y true h f g = clash refl (simp f at h)
 unlisted x y false h f g = g
 

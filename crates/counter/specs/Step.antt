@@ -8,8 +8,7 @@ use Rattle.composition_close.specs.Close.{closeSurface}
 use Rattle.composition_close.specs.Shutdown.{shutdownOf}
 use Rattle.composition_input.specs.declared.answer.CapturesReleased.{CapturesReleased}
 use Rattle.composition_input.specs.Captures.{releaseDevicePointerCaptures}
-use Rattle.input_events.specs.declared.error.PlatformInputError.the-variants.{Damaged}
-use Rattle.input_events.specs.RouterErrors.{fromComposition, routerRefusalIf}
+use Rattle.input_events.specs.RouterErrors.{fromComposition}
 use Rattle.input_releases.specs.declared.answer.Routed.{Routed}
 use Rattle.input_route.specs.Route.{routed}
 use Rattle.input_router.specs.declared.releases.Released.{Released}
@@ -56,7 +55,7 @@ fromRouted x = answered (reportAnswer (x .outcome) (x .report)) (x .registry) (x
 
 -- `release_surface` and `release_all` refuse 42 only, and leave the registry as it was
 abbrev pub fromReleased : CompositionRegistry → Released → Stepped
-fromReleased r x = answered (reportAnswer (routerRefusalIf (x .«is_damaged») Damaged) (releasesAlone (x .releases))) r (x .router)
+fromReleased r x = answered (reportAnswer (x .outcome) (releasesAlone (x .releases))) r (x .router)
 
 -- a call that alters nothing leaves both as they were
 abbrev pub fromRead : Counter → ReadStepped → Stepped

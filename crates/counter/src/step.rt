@@ -29,9 +29,7 @@ use composition_input::answer::CapturesReleased;
 use composition_input::captures::release_device_pointer_captures;
 use composition_shortcuts::register::Registrations;
 use composition_state::registry::CompositionRegistry;
-use input_events::error::PlatformInputError;
 use input_events::error::from_composition;
-use input_events::error::refuse_if;
 use input_releases::answer::Routed;
 use input_route::route::route;
 use input_router::releases::Released;
@@ -127,7 +125,7 @@ fn from_routed(routed: Routed) -> Stepped
 fn from_released(registry: CompositionRegistry, released: Released) -> Stepped
     ensures { λ r. ⌜ r ≡ fromReleased registry released ⌝ }
 {
-    let outcome = refuse_if(released.is_damaged, PlatformInputError::Damaged);
+    let outcome = released.outcome;
     let report = of_releases(released.releases);
     let answer = Answer::of_report(outcome, report);
     let router = released.router;

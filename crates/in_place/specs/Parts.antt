@@ -13,9 +13,9 @@ routeAnswer x = record { outcome = x .outcome; report = x .report }
 abbrev pub routeParts : Routed → RouteParts
 routeParts x = record { answer = routeAnswer x; registry = x .registry; router = x .router }
 
--- whether the router is damaged (42), and what is released
+-- the refusal of a router release, 42 alone, and what it lists
 abbrev pub releaseAnswer : Released → ReleaseAnswer
-releaseAnswer x = record { «is_damaged» = x .«is_damaged»; releases = x .releases }
+releaseAnswer x = record { outcome = x .outcome; releases = x .releases }
 
 abbrev pub releaseParts : Released → ReleaseParts
 releaseParts x = record { answer = releaseAnswer x; router = x .router }

@@ -1,8 +1,5 @@
 // `route`, `release_surface` and `release_all` on a lent router: the host's router is one object, altered in place by each event.
-ghost use mathlib.Core.Path.{_≡_};
-ghost use Rattle.input_route.specs.Route.{routed};
-ghost use Rattle.input_router.specs.Releases.{releaseSurface, releaseAll};
-ghost use Rattle.in_place.specs.Parts.{routeAnswer, releaseAnswer};
+ghost use Rattle.in_place.specs.Contracts.{RouteInPlace, ReleaseSurfaceInPlace, ReleaseAllInPlace};
 use crate::router_parts::ReleaseAnswer;
 use crate::router_parts::RouteAnswer;
 use crate::router_parts::release_all_parts;
@@ -18,9 +15,8 @@ pub fn route(
     router: &mut PlatformInputRouter,
     event: PlatformInputEvent,
 ) -> RouteAnswer
-    ensures { λ r. ⌜ (now (registry .exit) ≡ routed (now (registry .entry)) (now (router .entry)) event .registry)
-        × (now (router .exit) ≡ routed (now (registry .entry)) (now (router .entry)) event .router)
-        × (r ≡ routeAnswer (routed (now (registry .entry)) (now (router .entry)) event)) ⌝ }
+    ensures { λ r. ⌜ RouteInPlace (now (registry .entry)) (now (router .entry)) event
+        (now (registry .exit)) (now (router .exit)) r ⌝ }
 {
     let done = route_parts(*registry, *router, event);
     *registry = done.registry;
@@ -32,8 +28,7 @@ pub fn release_surface(
     router: &mut PlatformInputRouter,
     surface: GenerationalHandle,
 ) -> ReleaseAnswer
-    ensures { λ r. ⌜ (now (router .exit) ≡ releaseSurface (now (router .entry)) surface .router)
-        × (r ≡ releaseAnswer (releaseSurface (now (router .entry)) surface)) ⌝ }
+    ensures { λ r. ⌜ ReleaseSurfaceInPlace (now (router .entry)) surface (now (router .exit)) r ⌝ }
 {
     let done = release_surface_parts(*router, surface);
     *router = done.router;
@@ -41,8 +36,7 @@ pub fn release_surface(
 }
 
 pub fn release_all(router: &mut PlatformInputRouter) -> ReleaseAnswer
-    ensures { λ r. ⌜ (now (router .exit) ≡ releaseAll (now (router .entry)) .router)
-        × (r ≡ releaseAnswer (releaseAll (now (router .entry)))) ⌝ }
+    ensures { λ r. ⌜ ReleaseAllInPlace (now (router .entry)) (now (router .exit)) r ⌝ }
 {
     let done = release_all_parts(*router);
     *router = done.router;

@@ -24,9 +24,9 @@ pub struct RouteParts {
     pub router: PlatformInputRouter,
 }
 
-// A damaged router is refused and lists nothing.
+// A damaged router is refused 42 and lists nothing.
 pub struct ReleaseAnswer {
-    pub is_damaged: bool,
+    pub outcome: RouterOutcome,
     pub releases: Releases,
 }
 
@@ -58,12 +58,10 @@ pub fn route_parts(
 fn release_parts(done: Released) -> ReleaseParts
     ensures { λ r. ⌜ r ≡ releaseParts done ⌝ }
 {
+    let outcome = done.outcome;
     let releases = done.releases;
     let router = done.router;
-    let answer = ReleaseAnswer {
-        is_damaged: done.is_damaged,
-        releases,
-    };
+    let answer = ReleaseAnswer { outcome, releases };
     ReleaseParts { answer, router }
 }
 

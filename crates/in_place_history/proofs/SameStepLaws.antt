@@ -1,4 +1,4 @@
--- Each in-place entry is the same step: by `stepped`'s own cases, then by induction over the list. Demand 3 of the calls is so demand 3 of the entries.
+-- Each call of an in-place entry is the same step, by its contract and `stepped`'s cases; a list of calls by induction.
 use mathlib.Core.Path.{_≡_, refl, sym, ap, subst, _∙_}
 use mathlib.Core.List.{List, [], _∷_, map}
 use Rattle.lists.specs.Tables.{entriesOf, packed}
@@ -7,48 +7,60 @@ use Rattle.book.specs.Book.{emptyBook}
 use Rattle.counter.specs.declared.step.Counter.{Counter}
 use Rattle.counter.specs.Answers.{releasesAlone}
 use Rattle.counter.specs.Step.{stepped, routerStep}
-use Rattle.history.specs.Demand.{Kept}
-use Rattle.history.specs.Histories.{Entry, entryOf, after, history, bookAfter, fresh}
+use Rattle.history.specs.Demand.{Accepts, Kept}
+use Rattle.history.specs.Histories.{Start, Entry, entryOf, after, history, bookAfter, fresh}
 use Rattle.history.proofs.HistoryLaws.{demand-3, never-damaged}
-use Rattle.in_place_history.specs.Claims.{SameSteps, Demand3InPlace}
-use Rattle.in_place_history.specs.Entries.{InPlaceCall, step, route, release-surface, release-all, left, answered, leftBy, answeredBy, asked}
+use Rattle.in_place_history.specs.Claims.{stepFor, SameSteps, Demand3For, Demand3InPlace}
+use Rattle.in_place_history.specs.Entries.{InPlaceCall, step, route, release-surface, release-all, HoldsTo, Leads, routeEntry, releaseEntry, entryFor, asked}
 
-state : (x : InPlaceCall) (c : Counter) → left x c ≡ stepped c (asked x .call) (asked x .lists) .counter
+counter : (x : InPlaceCall) (c exit : Counter) → HoldsTo x c exit → exit ≡ stepFor x c .counter
 unfolding stepped routerStep
-state (step x) c = refl
-state (route e) c = refl
-state (release-surface h) c = refl
-state release-all c = refl
+counter (step x answer) c exit h = h .0
+counter (route e answer) c exit h = λ i. record { registry = h .0 i; router = h .1 i }
+counter (release-surface g answer) c exit h = λ i. record { registry = h .0 i; router = h .1 .0 i }
+counter (release-all answer) c exit h = λ i. record { registry = h .0 i; router = h .1 .0 i }
 
-answer : (x : InPlaceCall) (c : Counter) → answered x c ≡ entryOf (asked x .call) (stepped c (asked x .call) (asked x .lists) .answer)
+entry : (x : InPlaceCall) (c exit : Counter) → HoldsTo x c exit
+    → entryFor x ≡ entryOf (asked x .call) (stepFor x c .answer)
 unfolding stepped routerStep releasesAlone entriesOf packed
-answer (step x) c = refl
-answer (route e) c = refl
-answer (release-surface h) c = refl
-answer release-all c = refl
+entry (step x answer) c exit h = ap (entryOf (x .call)) (h .1)
+entry (route e answer) c exit h = ap (routeEntry e) (h .2)
+entry (release-surface g answer) c exit h = ap (releaseEntry _) (h .1 .1)
+entry (release-all answer) c exit h = ap (releaseEntry _) (h .1 .1)
 
-states : (xs : List InPlaceCall) (c : Counter) → leftBy xs c ≡ after (map asked xs) c
-unfolding leftBy after
-states [] c = refl
-states (x ∷ xs) c = states xs (left x c) ∙ ap (after (map asked xs)) (state x c)
+counters : (xs : List InPlaceCall) (c exit : Counter) → Leads xs c exit → exit ≡ after (map asked xs) c
+unfolding after
+counters [] c exit h = h
+counters (x ∷ xs) c exit h =
+    counters xs (h .0) exit (h .1 .1) ∙ ap (after (map asked xs)) (counter x c (h .0) (h .1 .0))
 
-answers : (xs : List InPlaceCall) (c : Counter) → answeredBy xs c ≡ history (map asked xs) c
-unfolding answeredBy history
-answers [] c = refl
-answers (x ∷ xs) c =
-    let rest : answeredBy xs (left x c) ≡ history (map asked xs) (stepped c (asked x .call) (asked x .lists) .counter) = answers xs (left x c) ∙ ap (history (map asked xs)) (state x c) in
-    λ i. answer x c i ∷ rest i
+entries : (xs : List InPlaceCall) (c exit : Counter) → Leads xs c exit → map entryFor xs ≡ history (map asked xs) c
+unfolding history
+entries [] c exit h = refl
+entries (x ∷ xs) c exit h =
+    let rest : map entryFor xs ≡ history (map asked xs) (stepFor x c .counter) =
+    entries xs (h .0) exit (h .1 .1) ∙ ap (history (map asked xs)) (counter x c (h .0) (h .1 .0)) in
+    λ i. entry x c (h .0) (h .1 .0) i ∷ rest i
 
 pub same-steps : SameSteps
-same-steps = record { state = state; answer = answer; states = states; answers = answers }
+same-steps = record { counter = counter; entry = entry; counters = counters; entries = entries }
+
+-- demand 3 of the steps is so demand 3 of the entries
+module _ (s : Start) (a : Accepts s) (xs : List InPlaceCall) (exit : Counter) (h : Leads xs (fresh s) exit) where
+  same : map entryFor xs ≡ history (map asked xs) (fresh s)
+  same = entries xs (fresh s) exit h
+
+  each : Demand3For s xs exit
+  each = record {
+    listed = λ k before e later at.
+        let lost = demand-3 .nothing-lost s a (map asked xs) (subst Kept same k) in
+        (lost .listed before e later (sym same ∙ at), lost .once before e later (sym same ∙ at));
+    held = λ k.
+        ap (λ (c : Counter). pressesOf (c .router)) (counters xs (fresh s) exit h)
+        ∙ demand-3 .nothing-lost s a (map asked xs) (subst Kept same k) .held
+        ∙ ap (λ (es : List Entry). bookAfter es emptyBook .presses) (sym same);
+    sound = rw (counters xs (fresh s) exit h) (never-damaged .sound s a (map asked xs));
+  }
 
 pub demand-3-in-place : Demand3InPlace
-demand-3-in-place = record {
-  listed = λ s a xs k before e later at.
-      let lost = demand-3 .nothing-lost s a (map asked xs) (subst Kept (answers xs (fresh s)) k) in
-      (lost .listed before e later (sym (answers xs (fresh s)) ∙ at), lost .once before e later (sym (answers xs (fresh s)) ∙ at));
-  held = λ s a xs k.
-      ap (λ (c : Counter). pressesOf (c .router)) (states xs (fresh s)) ∙ demand-3 .nothing-lost s a (map asked xs) (subst Kept (answers xs (fresh s)) k) .held
-      ∙ ap (λ (es : List Entry). bookAfter es emptyBook .presses) (sym (answers xs (fresh s)));
-  sound = λ s a xs. rw (states xs (fresh s)) (never-damaged .sound s a (map asked xs));
-}
+demand-3-in-place = record { each = each }

@@ -1,42 +1,48 @@
--- The in-place entries as a list of calls on one counter: what stands behind the references after each, and what it answers, by the entries' contracts.
+-- The in-place entries as a list of calls on one counter: each holds to its contract, and is an entry of the history.
+use mathlib.Core.Path.{_≡_}
 use mathlib.Core.List.{List, [], _∷_}
 use Rattle.lists.specs.Tables.{entriesOf, packed}
 use Rattle.handles.specs.declared.GenerationalHandle.{GenerationalHandle}
 use Rattle.handles.specs.declared.OptionalHandle.the-variants as handle
 use Rattle.records.specs.Traces.{deliveries, hits}
 use Rattle.composition_shortcuts.specs.Register.{registrations}
-use Rattle.input_events.specs.declared.error.PlatformInputError.the-variants.{Damaged}
 use Rattle.input_events.specs.declared.event.PlatformInputEvent.{PlatformInputEvent}
-use Rattle.input_events.specs.RouterErrors.{routerNumberOf, routerRefusalIf}
-use Rattle.input_route.specs.Route.{routed}
+use Rattle.input_events.specs.RouterErrors.{routerNumberOf}
 use Rattle.release_lists.specs.Releases.{releases}
-use Rattle.input_router.specs.Releases.{releaseSurface, releaseAll}
-use Rattle.calls.specs.declared.call.Call.{Call}
-use Rattle.calls.specs.declared.call.Call.the-variants.{Router}
 use Rattle.calls.specs.declared.call.Lists.{Lists}
+use Rattle.calls.specs.declared.call.Call.the-variants.{Router}
+use Rattle.calls.specs.declared.call.RouterCall.{RouterCall}
 use Rattle.calls.specs.declared.call.RouterCall.the-variants as router
+use Rattle.counter.specs.declared.answer.Answer.{Answer}
 use Rattle.counter.specs.declared.step.Counter.{Counter}
-use Rattle.counter.specs.Step.{stepped}
 use Rattle.history.specs.Histories.{Asked, Entry, entryOf}
 use Rattle.in_place.specs.declared.router_parts.ReleaseAnswer.{ReleaseAnswer}
 use Rattle.in_place.specs.declared.router_parts.RouteAnswer.{RouteAnswer}
-use Rattle.in_place.specs.Parts.{routeAnswer, releaseAnswer}
+use Rattle.in_place.specs.Contracts.{StepInPlace, RouteInPlace, ReleaseSurfaceInPlace, ReleaseAllInPlace}
 
--- a call of an entry of `in_place`, by its name there
+-- a call of an entry of `in_place`, by its name there: its arguments, and what it answered
 pub data InPlaceCall : Type 0 where
-  step : Asked → InPlaceCall
-  route : PlatformInputEvent → InPlaceCall
-  release-surface : GenerationalHandle → InPlaceCall
-  release-all : InPlaceCall
+  step : Asked → Answer → InPlaceCall
+  route : PlatformInputEvent → RouteAnswer → InPlaceCall
+  release-surface : GenerationalHandle → ReleaseAnswer → InPlaceCall
+  release-all : ReleaseAnswer → InPlaceCall
 
--- what stands behind the references at exit, as the entry's contract has it; the router's releases are not lent the registry
-abbrev pub left : InPlaceCall → Counter → Counter
-left (step x) c = stepped c (x .call) (x .lists) .counter
-left (route e) c = record { registry = routed (c .registry) (c .router) e .registry; router = routed (c .registry) (c .router) e .router }
-left (release-surface h) c = record { registry = c .registry; router = releaseSurface (c .router) h .router }
-left release-all c = record { registry = c .registry; router = releaseAll (c .router) .router }
+-- the entry's contract, from the counter behind its references at entry to that at exit;
+-- a router release is not lent the registry, which stays
+abbrev pub HoldsTo : InPlaceCall → Counter → Counter → Type 0
+HoldsTo (step x answer) c exit = StepInPlace c (x .call) (x .lists) exit answer
+HoldsTo (route e answer) c exit = RouteInPlace (c .registry) (c .router) e (exit .registry) (exit .router) answer
+HoldsTo (release-surface h answer) c exit =
+    (exit .registry ≡ c .registry) × ReleaseSurfaceInPlace (c .router) h (exit .router) answer
+HoldsTo (release-all answer) c exit =
+    (exit .registry ≡ c .registry) × ReleaseAllInPlace (c .router) (exit .router) answer
 
--- what the book is told of an entry's answer, and the releases that it lists
+-- a list of calls from one counter to another: each entry is lent what the last one left behind
+abbrev pub Leads : List InPlaceCall → Counter → Counter → Type 0
+Leads [] c exit = exit ≡ c
+Leads (x ∷ xs) c exit = (between : Counter) × (HoldsTo x c between × Leads xs between exit)
+
+-- what the book is told of the answer of `route`, and the releases that it lists
 abbrev pub routeEntry : PlatformInputEvent → RouteAnswer → Entry
 routeEntry e a = record {
   call = Router (router.Route e);
@@ -49,34 +55,28 @@ routeEntry e a = record {
   listed = entriesOf releases (a .report .«synthesized_releases»);
 }
 
-abbrev pub releaseEntry : Call → ReleaseAnswer → Entry
-releaseEntry c a = record {
-  call = c;
-  told = record { number = routerNumberOf (routerRefusalIf (a .«is_damaged») Damaged); handle = handle.None; consumer = handle.None; deliveries = [] };
+-- what the book is told of the answer of a router release, and the releases that it lists
+abbrev pub releaseEntry : RouterCall → ReleaseAnswer → Entry
+releaseEntry call a = record {
+  call = Router call;
+  told = record { number = routerNumberOf (a .outcome); handle = handle.None; consumer = handle.None; deliveries = [] };
   listed = entriesOf releases (a .releases);
 }
 
-abbrev pub answered : InPlaceCall → Counter → Entry
-answered (step x) c = entryOf (x .call) (stepped c (x .call) (x .lists) .answer)
-answered (route e) c = routeEntry e (routeAnswer (routed (c .registry) (c .router) e))
-answered (release-surface h) c = releaseEntry (Router (router.ReleaseSurface h)) (releaseAnswer (releaseSurface (c .router) h))
-answered release-all c = releaseEntry (Router router.ReleaseAll) (releaseAnswer (releaseAll (c .router)))
+-- the entry of the history that a call is
+abbrev pub entryFor : InPlaceCall → Entry
+entryFor (step x answer) = entryOf (x .call) answer
+entryFor (route e answer) = routeEntry e answer
+entryFor (release-surface h answer) = releaseEntry (router.ReleaseSurface h) answer
+entryFor (release-all answer) = releaseEntry router.ReleaseAll answer
 
--- each entry is given what the last one left
-unfoldable pub leftBy : List InPlaceCall → Counter → Counter
-leftBy [] c = c
-leftBy (x ∷ xs) c = leftBy xs (left x c)
-
-unfoldable pub answeredBy : List InPlaceCall → Counter → List Entry
-answeredBy [] c = []
-answeredBy (x ∷ xs) c = answered x c ∷ answeredBy xs (left x c)
-
--- the call of `step` that an entry is; the router's calls take no lists
+-- the router's calls take no lists
 abbrev pub noLists : Lists
 noLists = record { hits = packed hits []; registrations = packed registrations [] }
 
+-- the call of `step` that a call of an entry is
 abbrev pub asked : InPlaceCall → Asked
-asked (step x) = x
-asked (route e) = record { call = Router (router.Route e); lists = noLists }
-asked (release-surface h) = record { call = Router (router.ReleaseSurface h); lists = noLists }
-asked release-all = record { call = Router router.ReleaseAll; lists = noLists }
+asked (step x answer) = x
+asked (route e answer) = record { call = Router (router.Route e); lists = noLists }
+asked (release-surface h answer) = record { call = Router (router.ReleaseSurface h); lists = noLists }
+asked (release-all answer) = record { call = Router router.ReleaseAll; lists = noLists }

@@ -140,7 +140,7 @@ unfolding releaseSurface
 panel-listed-are r h s = rw s (entries-packed releases (keep (isOn h) (pressesOf r)))
 
 -- ---- the release of a view
-first-passes : (p : Binding → Bool) (l : List Binding) (e : Binding) → first p l ≡ some e → p e ≡ true
+pub first-passes : (p : Binding → Bool) (l : List Binding) (e : Binding) → first p l ≡ some e → p e ≡ true
 first-passes p [] e q = let z : true ≡ false = cc in clash (sym z) refl
 first-passes p (f ∷ l) e q = by-test (p f)
     (λ t. let is : some f ≡ some e = rw t at q in let same : f ≡ e = cc in rw (sym same) t)

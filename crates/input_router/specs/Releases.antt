@@ -11,19 +11,21 @@ use Rattle.maps.specs.Sequences.{sequences, sequenceKey}
 use Rattle.maps.specs.declared.keys.InputDeviceId.{InputDeviceId}
 use Rattle.maps.specs.declared.bindings.Binding.{Binding}
 use Rattle.maps.specs.declared.bindings.Bindings.{Bindings}
+use Rattle.input_events.specs.declared.error.PlatformInputError.the-variants.{Damaged}
+use Rattle.input_events.specs.declared.error.RouterOutcome.the-variants.{Accepted, Refused}
 use Rattle.input_router.specs.declared.releases.Released.{Released}
 use Rattle.input_router.specs.declared.router.PlatformInputRouter.{PlatformInputRouter}
 use Rattle.input_router.specs.Router.{emptyRouter, withBindings, withSequences, pressesOf}
 use Rattle.input_router.specs.Damage.{isRouterSound}
 use Rattle.release_lists.specs.Releases.{releases, isOn, byPanel}
 
--- a list of releases, and the router without its presses
+-- an accepted router release: a list of releases, and the router without these presses
 abbrev pub released : List Binding → PlatformInputRouter → Released
-released l r = record { «is_damaged» = false; releases = packed releases l; router = r }
+released l r = record { outcome = Accepted; releases = packed releases l; router = r }
 
--- a damaged router is refused: it lists nothing and stays
+-- a damaged router is refused 42: it lists nothing and stays
 abbrev pub damagedRelease : PlatformInputRouter → Released
-damagedRelease r = record { «is_damaged» = true; releases = packed releases []; router = r }
+damagedRelease r = record { outcome = Refused Damaged; releases = packed releases []; router = r }
 
 -- the presses of the panel: pointers, keys, gamepads, each by key
 unfoldable pub releaseSurface : PlatformInputRouter → GenerationalHandle → Released

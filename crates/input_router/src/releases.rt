@@ -3,6 +3,8 @@ ghost use mathlib.Core.Path.{_≡_};
 ghost use Rattle.input_router.specs.Releases.{releaseSurface, releaseAll, devicePresses, withoutDevicePresses, withoutDevice};
 use crate::router::PlatformInputRouter;
 use handles::GenerationalHandle;
+use input_events::error::PlatformInputError;
+use input_events::error::RouterOutcome;
 use maps::bindings::Bindings;
 use maps::keys::InputDeviceId;
 use maps::sequences::DeviceSequences;
@@ -11,9 +13,9 @@ use maps::tests::KeyTest;
 use release_lists::releases::Releases;
 use release_lists::releases::by_panel;
 
-// The answer of a router release: a damaged router is refused and stays as it came.
+// The answer of a router release: a damaged router is refused 42 and stays as it came.
 pub struct Released {
-    pub is_damaged: bool,
+    pub outcome: RouterOutcome,
     pub releases: Releases,
     pub router: PlatformInputRouter,
 }
@@ -28,15 +30,17 @@ impl PlatformInputRouter {
             let left = self.bindings.retain(EntryTest::NotOnSurface(surface));
             let releases = Releases::of_presses(taken);
             let router = self.with_bindings(left);
+            let outcome = RouterOutcome::Accepted;
             return Released {
-                is_damaged: false,
+                outcome,
                 releases,
                 router,
             };
         }
         let releases = Releases::new();
+        let outcome = RouterOutcome::Refused(PlatformInputError::Damaged);
         Released {
-            is_damaged: true,
+            outcome,
             releases,
             router: self,
         }
@@ -51,15 +55,17 @@ impl PlatformInputRouter {
             let emptied = self.with_bindings(Bindings::new());
             let unknown = emptied.with_sequences(DeviceSequences::new());
             let router = unknown.with_timestamp(0);
+            let outcome = RouterOutcome::Accepted;
             return Released {
-                is_damaged: false,
+                outcome,
                 releases,
                 router,
             };
         }
         let releases = Releases::new();
+        let outcome = RouterOutcome::Refused(PlatformInputError::Damaged);
         Released {
-            is_damaged: true,
+            outcome,
             releases,
             router: self,
         }

@@ -1,6 +1,6 @@
 -- A refused close of a panel: its checks leave all, 22 the panel out of its view, 21 the whole change.
 use Prim.Native.Nat.{ℕ}
-use mathlib.Core.Path.{_≡_, refl, sym, ap}
+use mathlib.Core.Path.{_≡_, refl, sym, ap, _∙_}
 use mathlib.Core.Bool.{Bool, not, _&&_}
 use borrow.Author.Tests.{not-true}
 use lib.Dec.{eqb}
@@ -19,11 +19,12 @@ use Rattle.composition_state.specs.Registry.{advanced, settled}
 use Rattle.records.specs.Surfaces.{surfaceStatus}
 use Rattle.records.specs.Views.{viewStatus}
 use Rattle.composition_panels.specs.Windows.{exhaustedRefusal}
-use Rattle.composition_close.specs.Close.{closeRefusal, detached, closedPanel, closeSettled, closeAfter, closeSurface}
+use Rattle.composition_close.specs.Close.{closeRefusal, detached, freed, closedPanel, closeSettled, closeAfter, closeSurface}
 use Rattle.composition_close.specs.Detach.{ownView}
 use Rattle.counter.specs.declared.step.Counter.{Counter}
 use Rattle.refusals.specs.Written.{closeWritten}
 use Rattle.refusals.proofs.LateLaws.{same-error, advanced-late, at, KeptAt}
+use Rattle.refusals.proofs.LeftLaws.{panel-out}
 use Rattle.refusals.proofs.NumberLaws.{Within, if-within, status-within, then-within}
 
 -- the checks before any change answer neither 21 nor 22
@@ -42,7 +43,8 @@ module _ (c : Counter) (h : GenerationalHandle) where
       → KeptAt c (advanced (closedPanel h (c .registry)) .registry) (closeWritten (c .registry) h (errorNumber e)) (errorNumber e)
   whole e q =
       let l = advanced-late (closedPanel h (c .registry)) e q in
-      rw (sym (l .last)) (record { leaves = ap (at c) (l .stays); comes-with = refl; unlisted = refl })
+      let stays = l .stays ∙ ap (freed h) (panel-out h (c .registry)) in
+      rw (sym (l .last)) (record { leaves = ap (at c) stays; comes-with = refl; unlisted = refl })
 
   -- after the checks: the slot's release decides
   slot : (o : ReleaseOutcome) (e : CompositionError) → settled (exhaustedRefusal o) (detached h (c .registry)) (closedPanel h (c .registry)) .outcome ≡ Refused e
@@ -50,7 +52,9 @@ module _ (c : Counter) (h : GenerationalHandle) where
   slot release.Released e q = whole e q
   slot release.Invalid e q = whole e q
   slot release.Stale e q = whole e q
-  slot release.GenerationExhausted e q = rw (sym (same-error q)) (record { leaves = refl; comes-with = refl; unlisted = refl })
+  slot release.GenerationExhausted e q =
+      let out = panel-out h (c .registry) in
+      rw (sym (same-error q)) (record { leaves = ap (at c) out; comes-with = refl; unlisted = refl })
 
   after : (o : Outcome) → Within isEarly o → (e : CompositionError) → closeAfter o (c .registry) h .outcome ≡ Refused e
       → KeptAt c (closeAfter o (c .registry) h .registry) (closeWritten (c .registry) h (errorNumber e)) (errorNumber e)

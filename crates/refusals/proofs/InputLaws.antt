@@ -1,6 +1,6 @@
 -- A refusal of a call on focus, captures, compositions or shortcuts: no check of it answers 21.
 use Prim.Native.Nat.{ℕ}
-use mathlib.Core.Path.{_≡_, refl}
+use mathlib.Core.Path.{_≡_, refl, ap, _∙_}
 use mathlib.Core.Bool.{Bool, true, false, cond, not, _||_}
 use lib.Dec.{eqb, ltb}
 use lib.ListN.{length}
@@ -15,6 +15,7 @@ use Rattle.maps.specs.Captures.{captures, captureKey, surfaceOf}
 use Rattle.maps.specs.Keys.{pointerValid, pointerKey}
 use Rattle.maps.specs.MapTables.{found, accepts}
 use Rattle.maps.specs.declared.keys.CompositionPointerId.{CompositionPointerId}
+use Rattle.maps.specs.declared.keys.InputDeviceId.{InputDeviceId}
 use Rattle.records.specs.declared.error.CompositionError.{CompositionError}
 use Rattle.records.specs.declared.error.CompositionError.the-variants.{Capacity, WrongView, NotInteractive, TextUnsupported, PortLimit}
 use Rattle.records.specs.declared.error.Outcome.{Outcome}
@@ -27,6 +28,7 @@ use Rattle.composition_input.specs.Captures.{primary, capture, ownRecord, captu
 use Rattle.composition_input.specs.Focus.{described, ownView, focusTargetRefusal, focusRefusal, setFocus, beginImeRefusal, beginIme, endImeRefusal, endIme, suspendRefusal, suspendViewInput}
 use Rattle.composition_shortcuts.specs.declared.register.Registrations.{Registrations}
 use Rattle.composition_shortcuts.specs.Register.{registrations, isFit, fits, registerRefusal, registerSurfaceSystemShortcutSet, registrationList, ofMask}
+use Rattle.calls.specs.declared.arguments.DeviceArguments.{DeviceArguments}
 use Rattle.calls.specs.declared.call.InputCall.{InputCall}
 use Rattle.calls.specs.declared.call.InputCall.the-variants as input
 use Rattle.calls.specs.declared.call.ShortcutCall.{ShortcutCall}
@@ -34,6 +36,7 @@ use Rattle.calls.specs.declared.call.ShortcutCall.the-variants as shortcut
 use Rattle.registry_step.specs.Steps.{inputStep, shortcutStep}
 use Rattle.refusals.specs.Changes.{inputChange, deviceChange, registerChange, shortcutChange}
 use Rattle.refusals.proofs.LateLaws.{taken≢refused, same-error, settled-late}
+use Rattle.refusals.proofs.LeftLaws.{cleared, device-left}
 use Rattle.refusals.proofs.NumberLaws.{isOther, Other, accepted, if-within, then-within, conflict, damage, entry, view-at, panel-at, interactive}
 
 module _ (r : CompositionRegistry) where
@@ -104,10 +107,14 @@ unlisted o r changed n false e q = settled-late o r changed n e q
 unlisted (Refused f) r changed n true e q = rw (not-true (eqb (errorNumber e) 21) (rw (same-error q) at (n .is)))
 unlisted Accepted r changed n true e q = taken≢refused q
 
-pub device-late : (r : CompositionRegistry) (device generation : ℕ) (e : CompositionError) → releaseDevicePointerCaptures r device generation .outcome ≡ Refused e
-    → releaseDevicePointerCaptures r device generation .registry ≡ cond (eqb (errorNumber e) 21) (deviceChange r device generation) r
+pub device-late : (r : CompositionRegistry) (a : DeviceArguments) (e : CompositionError)
+    → releaseDevicePointerCaptures r (a .device) (a .«device_generation») .outcome ≡ Refused e
+    → releaseDevicePointerCaptures r (a .device) (a .«device_generation») .registry
+    ≡ cond (eqb (errorNumber e) 21) (deviceChange r a) r
 unfolding releaseDevicePointerCaptures
-device-late r device generation e q =
-    unlisted (deviceRefusal r device generation) r (deviceChange r device generation)
-    (then-within (damage r) (if-within isOther (eqb device 0 || eqb generation 0) NotInteractive refl))
-    (eqb (length (deviceCaptures (r .views) device generation)) 0) e q
+device-late r a e q =
+    let d : InputDeviceId = record { value = a .device; generation = a .«device_generation» } in
+    unlisted (deviceRefusal r (d .value) (d .generation)) r (cleared d r)
+    (then-within (damage r) (if-within isOther (eqb (d .value) 0 || eqb (d .generation) 0) NotInteractive refl))
+    (eqb (length (deviceCaptures (r .views) (d .value) (d .generation))) 0) e q
+    ∙ ap (λ (changed : CompositionRegistry). cond (eqb (errorNumber e) 21) changed r) (device-left d r)

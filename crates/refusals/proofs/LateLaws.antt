@@ -19,7 +19,7 @@ use Rattle.input_events.specs.RouterErrors.{routerErrorNumber, fromComposition}
 use Rattle.input_releases.specs.declared.answer.PlatformInputRoutingReport.{PlatformInputRoutingReport}
 use Rattle.input_releases.specs.Answers.{noReport}
 use Rattle.counter.specs.declared.step.Counter.{Counter}
-use Rattle.refusals.specs.Written.{Written, left, changeIf, comesWith}
+use Rattle.refusals.specs.Written.{Written, afterRefusal, changeIf, comesWith}
 use Rattle.refusals.proofs.NumberLaws.{Other}
 
 pub accepted≢refused {ℓ} : {P : Type ℓ} {e : PlatformInputError} → Accepted ≡ Refused e → P
@@ -55,7 +55,7 @@ settled-late (composition.Refused f) r changed n e q = rw (sym (same-error q), n
 
 -- ---- what is left of a counter, with the number that it comes with and the report
 pub record Kept (c : Counter) (report : PlatformInputRoutingReport) (after : Counter) (w : Written) (n : ℕ) : Type 0 where
-  pub leaves : after ≡ left c w
+  pub leaves : after ≡ afterRefusal c w
   pub comes-with : comesWith w n ≡ true
   pub unlisted : report ≡ noReport
 

@@ -1,5 +1,6 @@
 pub mod NumberLaws
 pub mod LateLaws
+pub mod LeftLaws
 pub mod PanelLaws
 pub mod InputLaws
 pub mod CloseLaws

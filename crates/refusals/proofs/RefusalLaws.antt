@@ -21,8 +21,8 @@ use Rattle.composition_close.specs.Shutdown.{shutdownOf}
 use Rattle.composition_close.proofs.ClaimLaws as closes
 use Rattle.input_events.specs.declared.error.PlatformInputError.{PlatformInputError}
 use Rattle.input_events.specs.declared.error.PlatformInputError.the-variants.{Damaged}
-use Rattle.input_events.specs.declared.error.RouterOutcome.the-variants.{Refused}
-use Rattle.input_events.specs.RouterErrors.{routerErrorNumber, routerRefusalIf, fromComposition}
+use Rattle.input_events.specs.declared.error.RouterOutcome.the-variants.{Accepted, Refused}
+use Rattle.input_events.specs.RouterErrors.{routerErrorNumber, fromComposition}
 use Rattle.input_router.specs.declared.releases.Released.{Released}
 use Rattle.input_router.specs.Damage.{isRouterSound}
 use Rattle.release_lists.specs.Releases.{isOn, byPanel}
@@ -66,14 +66,14 @@ unfolding arbitrated concluded arbitrationAlone
 blank-arbitration r view event h x p = rw p
 
 -- ---- a router release refuses the damaged router alone, which stays
-module _ (c : Counter) (x : Released) (whole : x .«is_damaged» ≡ false) (e : PlatformInputError) where
-  release-kept : (sound : Bool) → routerRefusalIf (cond sound x (damagedRelease (c .router)) .«is_damaged») Damaged ≡ Refused e
+module _ (c : Counter) (x : Released) (whole : x .outcome ≡ Accepted) (e : PlatformInputError) where
+  release-kept : (sound : Bool) → cond sound x (damagedRelease (c .router)) .outcome ≡ Refused e
       → Kept c (releasesAlone (cond sound x (damagedRelease (c .router)) .releases)) (record { registry = c .registry; router = cond sound x (damagedRelease (c .router)) .router }) nothing (routerErrorNumber e)
   unfolding releasesAlone
   release-kept true q = accepted≢refused (rw whole at q)
   release-kept false q = record { leaves = refl; comes-with = refl; unlisted = refl }
 
-  damaged-only : (sound : Bool) → routerRefusalIf (cond sound x (damagedRelease (c .router)) .«is_damaged») Damaged ≡ Refused e → e ≡ Damaged
+  damaged-only : (sound : Bool) → cond sound x (damagedRelease (c .router)) .outcome ≡ Refused e → e ≡ Damaged
   damaged-only true q = accepted≢refused (rw whole at q)
   damaged-only false q = sym (same-refusal q)
 
@@ -95,7 +95,7 @@ kept c (Input x) l e q =
     changed-kept c (s .registry) (inputChange (c .registry) x) true (s .outcome) (input-late (c .registry) x) e q
 kept c (ReleaseDevice a) l e q =
     let s = releaseDevicePointerCaptures (c .registry) (a .device) (a .«device_generation») in
-    changed-kept c (s .registry) (deviceChange (c .registry) (a .device) (a .«device_generation»)) true (s .outcome) (device-late (c .registry) (a .device) (a .«device_generation»)) e q
+    changed-kept c (s .registry) (deviceChange (c .registry) a) true (s .outcome) (device-late (c .registry) a) e q
 kept c (Shortcut x) l e q =
     let s = shortcutStep (c .registry) x (l .registrations) in
     changed-kept c (s .registry) (shortcutChange (c .registry) x (l .registrations)) true (s .outcome) (shortcut-late (c .registry) x (l .registrations)) e q

@@ -1,21 +1,26 @@
 -- A refused event: its checks leave all; once they have passed, its work is refused as its payload says, and the sequence and time stay.
 use Prim.Native.Nat.{ℕ}
-use mathlib.Core.Path.{_≡_, refl, sym, ap, _∙_}
-use mathlib.Core.Bool.{Bool, true, false, cond, not, _||_, _&&_}
+use mathlib.Core.Path.{_≡_, refl, sym, ap, subst, _∙_}
+use mathlib.Core.Bool.{Bool, true, false, cond, not, _&&_}
+use mathlib.Core.Option.{Option, none, some}
 use borrow.Author.Tests.{not-true, eq-eqb}
 use lib.Dec.{eqb}
 use lib.ListN.{length}
-use Rattle.lists.proofs.ListLaws.{by-test, and-left, and-right}
-use Rattle.handles.specs.declared.arena.SlotStatus.the-variants.{Live}
+use Rattle.lists.proofs.ListLaws.{by-test, clash, and-left, and-right}
+use Rattle.handles.specs.declared.arena.SlotStatus.{SlotStatus}
+use Rattle.handles.specs.declared.arena.SlotStatus.the-variants.{Live, Invalid, Stale}
+use Rattle.handles.specs.declared.GenerationalHandle.{GenerationalHandle}
+use Rattle.maps.specs.declared.bindings.Binding.{Binding}
+use Rattle.maps.specs.declared.keys.InputDeviceId.{InputDeviceId}
 use Rattle.maps.specs.Keys.{deviceValid}
 use Rattle.records.specs.declared.error.CompositionError.{CompositionError}
 use Rattle.records.specs.declared.error.CompositionError.the-variants.{InvalidView, StaleView, InvalidSurface, StaleSurface}
 use Rattle.records.specs.declared.error.Outcome.{Outcome}
 use Rattle.records.specs.declared.error.Outcome.the-variants as composition
 use Rattle.composition_state.specs.declared.registry.CompositionRegistry.{CompositionRegistry}
-use Rattle.records.specs.declared.surface.SurfaceTable.{SurfaceTable}
 use Rattle.composition_state.specs.Damage.{isSound}
-use Rattle.records.specs.Errors.{isAccepted}
+use Rattle.records.specs.Errors.{statusRefusal}
+use Rattle.records.specs.Layers.{isLive}
 use Rattle.composition_state.specs.Registry.{settled, answered}
 use Rattle.records.specs.Surfaces.{surfaceStatus}
 use Rattle.records.specs.Views.{viewStatus, viewRefusal}
@@ -37,20 +42,24 @@ use Rattle.input_events.specs.Checks.{deviceRefusal as idRefusal, headerRefusal
 use Rattle.input_events.specs.RouterErrors.{routerErrorNumber, thenRouterRefusal, routerRefusalIf, fromComposition}
 use Rattle.release_lists.specs.declared.releases.Releases.{Releases}
 use Rattle.input_router.specs.declared.router.PlatformInputRouter.{PlatformInputRouter}
-use Rattle.input_router.specs.declared.view_releases.OptionalPress.{OptionalPress}
-use Rattle.input_router.specs.declared.view_releases.OptionalPress.the-variants.{None, Some}
+use Rattle.input_router.specs.declared.order.Order.{Order}
+use Rattle.input_router.specs.declared.order.Order.the-variants.{InOrder, InvalidSequence, InvalidTimestamp, PortLimit}
+use Rattle.input_router.specs.declared.view_releases.ViewReleased.{ViewReleased}
 use Rattle.input_router.specs.Damage.{isRouterSound}
 use Rattle.input_router.specs.Router.{pressesOf}
-use Rattle.input_router.specs.ViewReleases.{firstClosed, closedRefusal, releaseView}
+use Rattle.input_router.specs.Order.{orderOf}
+use Rattle.input_router.proofs.ClaimLaws as routers
+use Rattle.input_router.proofs.ClaimLaws.{first-passes}
 use Rattle.input_releases.specs.declared.answer.Routed.{Routed}
-use Rattle.input_route.specs.Checks.{damagedRefusal, routeRefusal}
+use Rattle.input_route.specs.Checks.{damagedRefusal, roomRefusal, refusalOfOrder, routeRefusal}
 use Rattle.input_releases.specs.Losses.{disconnectAfter, routedDisconnect, lossAfter, suspendedLoss, lossFrom, routedLoss}
 use Rattle.input_route.specs.Route.{heldFor, hitsFor, arbitratedAfter, routedArbitration, routedPayload, recordedEvent, routedAfter, routed}
 use Rattle.counter.specs.declared.step.Counter.{Counter}
-use Rattle.refusals.specs.Changes.{deviceChange, suspendChange}
-use Rattle.refusals.specs.Written.{Written, order, disconnect, loss, closed-owner, left, viewRelease, workWritten, routeWritten}
+use Rattle.refusals.specs.Left.{recordedBy, closedOwner, inView, lostView}
+use Rattle.refusals.specs.Written.{Written, order, disconnect, loss, closed-owner, afterRefusal, lossWritten, workWritten, routeWritten}
 use Rattle.refusals.proofs.LateLaws.{accepted≢refused, taken≢refused, same-refusal, Late, advanced-late, Kept}
-use Rattle.refusals.proofs.NumberLaws.{Within, accepted, status-within}
+use Rattle.refusals.proofs.LeftLaws.{device-presses, releaseTo, owner-met, before-owner, cleared, device-left}
+use Rattle.refusals.proofs.NumberLaws.{Within}
 use Rattle.refusals.proofs.RoutedArbitrationLaws.{isLate, arbitration-late}
 
 -- ---- what the passed checks say
@@ -74,17 +83,31 @@ record Passed (c : Counter) (x : PlatformInputEvent) : Type 0 where
   whole : isSound (c .registry) ≡ true
   device : deviceValid (x .header .device) ≡ true
   live : viewStatus (c .registry .views) (x .header .view) ≡ Live
+  recorded : recordedEvent (c .router) x ≡ recordedBy x (c .router)
+
+in-order : (o : Order) → refusalOfOrder o ≡ Accepted → o ≡ InOrder
+in-order InOrder h = refl
+in-order InvalidSequence h = accepted≢refused (sym h)
+in-order InvalidTimestamp h = accepted≢refused (sym h)
+in-order PortLimit h = accepted≢refused (sym h)
 
 passed : (c : Counter) (x : PlatformInputEvent) → routeRefusal (c .registry) (c .router) x ≡ Accepted → Passed c x
 unfolding routeRefusal eventRefusal headerRefusal
 passed c x h =
-    let event = first-passed (eventRefusal (c .registry .views) x) _ (rest-passed (damagedRefusal (c .registry) (c .router)) _ h) in
+    let whole = rest-passed (damagedRefusal (c .registry) (c .router)) _ h in
+    let event = first-passed (eventRefusal (c .registry .views) x) _ whole in
+    let roomed = rest-passed (eventRefusal (c .registry .views) x) _ whole in
+    let n = x .header .sequence in
+    let time = x .header .«timestamp_micros» in
     let header = first-passed (headerRefusal (c .registry .views) (x .header)) _ (rest-passed (idRefusal (x .header .device)) _ event) in
     record {
       whole = and-left (isSound (c .registry)) (isRouterSound (c .router)) (test-passed (isSound (c .registry) && isRouterSound (c .router)) error.Damaged (first-passed (damagedRefusal (c .registry) (c .router)) _ h));
       device = test-passed (deviceValid (x .header .device)) error.InvalidDevice (first-passed (idRefusal (x .header .device)) _ event);
       live = status-live (viewStatus (c .registry .views) (x .header .view)) InvalidView StaleView
           (carried-passed (viewRefusal (c .registry .views) (x .header .view)) (first-passed (fromComposition (viewRefusal (c .registry .views) (x .header .view))) _ header));
+      recorded = routers.claims .in-order (c .router) (x .header .device) n time
+          (in-order (orderOf (c .router) (x .header .device) n time)
+          (rest-passed (roomRefusal (c .router) x) _ roomed));
     }
 
 -- ---- a change after checks that have passed is refused by 21 alone
@@ -103,10 +126,20 @@ leftBy y = record { registry = y .registry; router = y .router }
 
 module _ (c : Counter) (x : PlatformInputEvent) where
   abbrev recordedRouter : PlatformInputRouter
-  recordedRouter = recordedEvent (c .router) x
+  recordedRouter = recordedBy x (c .router)
 
   abbrev KeptBy : Written → Routed → Type 0
   KeptBy w y = (e : PlatformInputError) → y .outcome ≡ Refused e → Kept c (y .report) (leftBy y) w (routerErrorNumber e)
+
+  abbrev view : GenerationalHandle
+  view = x .header .view
+
+  abbrev device : InputDeviceId
+  device = x .header .device
+
+  -- a refusal comes by 21, after a change
+  abbrev LateBy : CompositionRegistry → Outcome → CompositionRegistry → Type 0
+  LateBy changed o after = (e : CompositionError) → o ≡ composition.Refused e → Late changed e after
 
   -- ---- a disconnect
   device-passed : Passed c x → deviceRefusal (c .registry) (x .header .device .value) (x .header .device .generation) ≡ composition.Accepted
@@ -115,56 +148,88 @@ module _ (c : Counter) (x : PlatformInputEvent) where
       let generation = not-true (eqb (x .header .device .generation) 0) (and-right (not (eqb (x .header .device .value) 0)) _ (p .device)) in
       rw (p .whole, value, generation)
 
-  after-disconnect : (s : CapturesReleased) (o : Outcome)
-      → ((e : CompositionError) → o ≡ composition.Refused e → Late (deviceChange (c .registry) (x .header .device .value) (x .header .device .generation)) e (s .registry))
-      → KeptBy (disconnect x) (disconnectAfter s recordedRouter (x .header .device) o)
+  after-disconnect : (s : CapturesReleased) (o : Outcome) → LateBy (cleared device (c .registry)) o (s .registry)
+      → KeptBy (disconnect x) (disconnectAfter s recordedRouter device o)
   after-disconnect s composition.Accepted k e q = accepted≢refused q
   after-disconnect s (composition.Refused y) k e q =
+      let stays = k y refl .stays ∙ device-left device (c .registry) in
       rw (sym (same-refusal q), sym (k y refl .last))
-      (record { leaves = ap (λ (r : CompositionRegistry). record { registry = r; router = left c (disconnect x) .router }) (k y refl .stays); comes-with = refl; unlisted = refl })
+      (record {
+        leaves = λ i. record { registry = stays i; router = device-presses recordedRouter device i };
+        comes-with = refl;
+        unlisted = refl;
+      })
 
-  disconnected : Passed c x → KeptBy (disconnect x) (routedDisconnect (c .registry) recordedRouter (x .header .device))
+  disconnected : Passed c x → KeptBy (disconnect x) (routedDisconnect (c .registry) recordedRouter device)
   unfolding routedDisconnect releaseDevicePointerCaptures
   disconnected p =
-      let d = x .header .device in
-      let s = releaseDevicePointerCaptures (c .registry) (d .value) (d .generation) in
+      let s = releaseDevicePointerCaptures (c .registry) (device .value) (device .generation) in
+      let listed = deviceCaptures (c .registry .views) (device .value) (device .generation) in
+      let checked = deviceRefusal (c .registry) (device .value) (device .generation) in
       after-disconnect s (s .outcome)
-      (listed-only (eqb (length (deviceCaptures (c .registry .views) (d .value) (d .generation))) 0) (deviceRefusal (c .registry) (d .value) (d .generation)) (c .registry)
-      (deviceChange (c .registry) (d .value) (d .generation)) (device-passed p))
+      (listed-only (eqb (length listed) 0) checked (c .registry) (cleared device (c .registry)) (device-passed p))
 
   -- ---- a view's loss
-  after-loss : (s : Suspended) (l : Releases) (o : Outcome) → ((e : CompositionError) → o ≡ composition.Refused e → Late (suspendChange (c .registry) (x .header .view)) e (s .registry))
-      → KeptBy (loss x) (lossAfter s (viewRelease c x .router) l o)
+  -- without a closed owner: the router without the presses on the view's panels, then the view suspended
+  abbrev lostRouter : PlatformInputRouter
+  lostRouter = afterRefusal c (loss x) .router
+
+  abbrev lostRegistry : CompositionRegistry
+  lostRegistry = inView view lostView (c .registry)
+
+  after-loss : (s : Suspended) (l : Releases) (o : Outcome) → LateBy lostRegistry o (s .registry)
+      → KeptBy (loss x) (lossAfter s lostRouter l o)
   after-loss s l composition.Accepted k e q = accepted≢refused q
   after-loss s l (composition.Refused y) k e q =
       rw (sym (same-refusal q), sym (k y refl .last))
-      (record { leaves = ap (λ (r : CompositionRegistry). record { registry = r; router = viewRelease c x .router }) (k y refl .stays); comes-with = refl; unlisted = refl })
+      (record {
+        leaves = λ i. record { registry = k y refl .stays i; router = lostRouter };
+        comes-with = refl;
+        unlisted = refl;
+      })
 
-  suspend-passed : Passed c x → suspendRefusal (c .registry) (x .header .view) (c .registry .revision) ≡ composition.Accepted
+  suspend-passed : Passed c x → suspendRefusal (c .registry) view (c .registry .revision) ≡ composition.Accepted
   suspend-passed p = rw (p .whole, eq-eqb (c .registry .revision) (c .registry .revision) refl, p .live)
 
-  suspended : Passed c x → (l : Releases) → KeptBy (loss x) (suspendedLoss (c .registry) (viewRelease c x .router) (x .header .view) l)
+  suspended : Passed c x → (l : Releases) → KeptBy (loss x) (suspendedLoss (c .registry) lostRouter view l)
   unfolding suspendedLoss suspendViewInput
   suspended p l =
-      let s = suspendViewInput (c .registry) (x .header .view) (c .registry .revision) in
-      after-loss s l (s .outcome)
-      (settled-only (suspendRefusal (c .registry) (x .header .view) (c .registry .revision)) (c .registry) (suspendChange (c .registry) (x .header .view)) (suspend-passed p))
+      let s = suspendViewInput (c .registry) view (c .registry .revision) in
+      let checked = suspendRefusal (c .registry) view (c .registry .revision) in
+      after-loss s l (s .outcome) (settled-only checked (c .registry) lostRegistry (suspend-passed p))
 
-  -- 11/12 of a closed owner
-  abbrev isOwner : ℕ → Bool
-  isOwner n = eqb n 11 || eqb n 12
+  -- with one: 11/12 of its panel, which is not live
+  module _ (owner : Binding) (v : ViewReleased) (k : v .router ≡ afterRefusal c (closed-owner x owner) .router) where
+    stays : record { registry = c .registry; router = v .router } ≡ afterRefusal c (closed-owner x owner)
+    stays = λ i. record { registry = c .registry; router = k i }
 
-  closed : (surfaces : SurfaceTable) (stop : OptionalPress) → Within isOwner (closedRefusal surfaces stop)
-  closed surfaces None = accepted isOwner
-  closed surfaces (Some press) = status-within isOwner (surfaceStatus surfaces (press .surface)) InvalidSurface StaleSurface refl refl
+    closed : (s : SlotStatus) → isLive s ≡ false
+        → KeptBy (closed-owner x owner) (lossFrom (c .registry) view v (statusRefusal s InvalidSurface StaleSurface))
+    closed Live n e q = clash refl n
+    closed Invalid n e q = rw (sym (same-refusal q)) (record { leaves = stays; comes-with = refl; unlisted = refl })
+    closed Stale n e q = rw (sym (same-refusal q)) (record { leaves = stays; comes-with = refl; unlisted = refl })
 
-  released : Within isOwner (viewRelease c x .outcome)
-  unfolding releaseView
-  released = closed (c .registry .surfaces) (firstClosed (c .registry .surfaces) (pressesOf recordedRouter))
+  -- by the owner that the release meets, if any
+  abbrev lossTo : ViewReleased → Routed
+  lossTo v = lossFrom (c .registry) view v (v .outcome)
 
-  after-release : Passed c x → (o : Outcome) → Within isOwner o → KeptBy (cond (isAccepted o) (loss x) (closed-owner x)) (lossFrom (c .registry) (x .header .view) (viewRelease c x) o)
-  after-release p composition.Accepted n e q = suspended p _ e q
-  after-release p (composition.Refused y) n e q = rw (sym (same-refusal q)) (record { leaves = refl; comes-with = n .is; unlisted = refl })
+  by-owner : Passed c x → (o : Option Binding) → closedOwner (c .registry) (c .router) ≡ o
+      → KeptBy (lossWritten x o) (lossTo (releaseTo (c .registry) recordedRouter view o))
+  by-owner p none m e q = suspended p _ e q
+  by-owner p (some owner) m e q =
+      let status = surfaceStatus (c .registry .surfaces) (owner .surface) in
+      closed owner (releaseTo (c .registry) recordedRouter view (some owner))
+      (before-owner (c .registry) recordedRouter view owner)
+      status (not-true (isLive status) (first-passes _ (pressesOf (c .router)) owner m)) e q
+
+  abbrev owned : Option Binding
+  owned = closedOwner (c .registry) (c .router)
+
+  lost : Passed c x → KeptBy (lossWritten x owned) (routedLoss (c .registry) recordedRouter view)
+  unfolding routedLoss
+  lost p =
+      subst (λ (v : ViewReleased). KeptBy (lossWritten x owned) (lossTo v))
+      (sym (owner-met (c .registry) recordedRouter view)) (by-owner p owned refl)
 
   -- ---- any other event
   after-arbitration : (a : Arbitrated) (o : Outcome) → Within isLate o → ((e : CompositionError) → o ≡ composition.Refused e → a .registry ≡ c .registry)
@@ -182,15 +247,18 @@ module _ (c : Counter) (x : PlatformInputEvent) where
 
   -- ---- by payload, and by the checks
   worked : Passed c x → KeptBy (workWritten c x) (routedPayload (c .registry) recordedRouter x)
-  unfolding routedPayload routedLoss
+  unfolding routedPayload
   worked p = by-test (isDisconnect (x .payload))
       (λ t. rw t (disconnected p))
       (λ t. rw t (by-test (isLoss (x .payload))
-      (λ u. rw u (after-release p (viewRelease c x .outcome) released))
+      (λ u. rw u (lost p))
       (λ u. rw u (ordered p))))
 
   by-checks : (o : RouterOutcome) → routeRefusal (c .registry) (c .router) x ≡ o → KeptBy (routeWritten c x) (routedAfter (c .registry) (c .router) x o)
-  by-checks Accepted k e q = rw k (worked (passed c x k) e q)
+  by-checks Accepted k e q =
+      let p = passed c x k in
+      let work : PlatformInputRouter → Type 0 = λ t. KeptBy (workWritten c x) (routedPayload (c .registry) t x) in
+      rw k (subst work (sym (p .recorded)) (worked p) e q)
   by-checks (Refused y) k e q = rw k (record { leaves = refl; comes-with = refl; unlisted = refl })
 
   pub route-kept : KeptBy (routeWritten c x) (routed (c .registry) (c .router) x)

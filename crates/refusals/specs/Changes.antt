@@ -1,5 +1,4 @@
 -- Document 01, What a refusal has written: "21 comes after the change". The change of each call, before the revision rises.
-use Prim.Native.Nat.{ℕ}
 use Rattle.handles.specs.Slots.{released}
 use Rattle.handles.specs.declared.GenerationalHandle.{GenerationalHandle}
 use Rattle.handles.specs.declared.OptionalHandle.the-variants.{None, Some}
@@ -11,16 +10,19 @@ use Rattle.records.specs.Views.{freshView, viewAt, withView, viewsWith, withMet
 use Rattle.composition_panels.specs.Metrics.{newMetrics}
 use Rattle.composition_panels.specs.Panels.{newSurface, attached}
 use Rattle.composition_panels.specs.Windows.{newWindow, newView}
-use Rattle.composition_input.specs.Captures.{primary, ownRecord, capturedView, releasedView, deviceCleared}
-use Rattle.composition_input.specs.Focus.{ownView, withViewRecord, suspendedView}
+use Rattle.composition_input.specs.Captures.{primary, ownRecord, capturedView, releasedView}
+use Rattle.composition_input.specs.Focus.{ownView, withViewRecord}
+use Rattle.composition_close.specs.Close.{freed}
 use Rattle.composition_shortcuts.specs.declared.register.Registrations.{Registrations}
 use Rattle.composition_shortcuts.specs.Register.{replaced, registrationList, ofMask}
+use Rattle.calls.specs.declared.arguments.DeviceArguments.{DeviceArguments}
 use Rattle.calls.specs.declared.call.InputCall.{InputCall}
 use Rattle.calls.specs.declared.call.InputCall.the-variants as input
 use Rattle.calls.specs.declared.call.PanelCall.{PanelCall}
 use Rattle.calls.specs.declared.call.PanelCall.the-variants as panel
 use Rattle.calls.specs.declared.call.ShortcutCall.{ShortcutCall}
 use Rattle.calls.specs.declared.call.ShortcutCall.the-variants as shortcut
+use Rattle.refusals.specs.Left.{inView, inEveryView, withoutDevice, lostView, panelOut}
 
 -- the registry with another record for a panel
 abbrev pub withSurfaceRecord : GenerationalHandle → SurfaceRecord → CompositionRegistry → CompositionRegistry
@@ -37,10 +39,6 @@ panelChange r (panel.AttachSurface descriptor) = attached (newSurface r) descrip
 panelChange r (panel.UpdateSurfaceGeometry a) = withSurfaceRecord (a .surface) (withGeometry (a .geometry) (surfaceAt (r .surfaces) (a .surface))) r
 panelChange r (panel.UpdateSurfaceInputPolicy a) = withSurfaceRecord (a .surface) (withInput (a .input) (surfaceAt (r .surfaces) (a .surface))) r
 
--- a view without focus, captures and composition
-abbrev pub suspendChange : CompositionRegistry → GenerationalHandle → CompositionRegistry
-suspendChange r view = withViewRecord view (suspendedView (viewAt (r .views) view)) r
-
 -- a view's focus, or what a panel has in its own view: a pointer, the composition
 unfoldable pub inputChange : CompositionRegistry → InputCall → CompositionRegistry
 inputChange r (input.SetFocus a) = withViewRecord (a .view) (withFocus (a .surface) (viewAt (r .views) (a .view))) r
@@ -50,11 +48,11 @@ inputChange r (input.ReleasePointer a) = withViewRecord (ownView r (a .handle)) 
 inputChange r (input.ReleasePointerFor a) = withViewRecord (ownView r (a .surface)) (releasedView (a .pointer) (ownRecord r (a .surface))) r
 inputChange r (input.BeginIme a) = withViewRecord (ownView r (a .handle)) (withIme (Some (a .handle)) (ownRecord r (a .handle))) r
 inputChange r (input.EndIme a) = withViewRecord (ownView r (a .handle)) (withIme None (ownRecord r (a .handle))) r
-inputChange r (input.SuspendViewInput a) = suspendChange r (a .handle)
+inputChange r (input.SuspendViewInput a) = inView (a .handle) lostView r
 
 -- every view without the captures of the device
-abbrev pub deviceChange : CompositionRegistry → ℕ → ℕ → CompositionRegistry
-deviceChange r device generation = withViews (deviceCleared (r .views) device generation) r
+abbrev pub deviceChange : CompositionRegistry → DeviceArguments → CompositionRegistry
+deviceChange r a = inEveryView (withoutDevice (record { value = a .device; generation = a .«device_generation» })) r
 
 -- a panel's registrations
 abbrev pub registerChange : CompositionRegistry → GenerationalHandle → Registrations → CompositionRegistry
@@ -64,3 +62,7 @@ unfoldable pub shortcutChange : CompositionRegistry → ShortcutCall → Registr
 shortcutChange r (shortcut.RegisterSet a) l = registerChange r (a .handle) l
 shortcutChange r (shortcut.RegisterOne a) l = registerChange r (a .surface) (registrationList (a .registration))
 shortcutChange r (shortcut.SetMask a) l = registerChange r (a .surface) (registrationList (ofMask (a .«class_mask»)))
+
+-- a panel's close: the panel out of its view, then its slot released and its registrations gone
+abbrev pub closeChange : CompositionRegistry → GenerationalHandle → CompositionRegistry
+closeChange r h = freed h (panelOut h r)

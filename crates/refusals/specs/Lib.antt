@@ -1,3 +1,4 @@
+pub mod Left
 pub mod Changes
 pub mod Written
 pub mod Refusals

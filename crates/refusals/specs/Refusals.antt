@@ -14,7 +14,7 @@ use Rattle.calls.specs.declared.call.ReadCall.{ReadCall}
 use Rattle.calls.specs.declared.call.RouterCall.the-variants.{ReleaseSurface, ReleaseAll}
 use Rattle.counter.specs.declared.step.Counter.{Counter}
 use Rattle.counter.specs.Step.{stepped}
-use Rattle.refusals.specs.Written.{Written, left, writtenBy, comesWith}
+use Rattle.refusals.specs.Written.{Written, afterRefusal, writtenBy, comesWith}
 
 -- the call is refused with this error
 abbrev pub IsRefused : Counter → Call → Lists → PlatformInputError → Type 0
@@ -26,7 +26,8 @@ writtenWith c call l e = writtenBy c call l (routerErrorNumber e)
 
 pub record StepRefusals : Type 0 where
   -- a refused call leaves registry and router as they came, but for what its case of document 01's paragraph has written
-  pub leaves : (c : Counter) (call : Call) (l : Lists) (e : PlatformInputError) → IsRefused c call l e → stepped c call l .counter ≡ left c (writtenWith c call l e)
+  pub leaves : (c : Counter) (call : Call) (l : Lists) (e : PlatformInputError) → IsRefused c call l e
+      → stepped c call l .counter ≡ afterRefusal c (writtenWith c call l e)
   -- and each case comes with its own numbers alone
   pub comes-with : (c : Counter) (call : Call) (l : Lists) (e : PlatformInputError) → IsRefused c call l e → comesWith (writtenWith c call l e) (routerErrorNumber e) ≡ true
   -- "unlisted": its report is blank, with no release

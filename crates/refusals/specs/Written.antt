@@ -1,20 +1,16 @@
 -- Document 01, What a refusal has written: its cases, what each of them leaves, and which of them a refusal is.
 use Prim.Native.Nat.{ℕ}
 use mathlib.Core.Bool.{Bool, true, false, cond, not, _&&_, _||_}
+use mathlib.Core.Option.{Option, none, some}
 use lib.Dec.{eqb}
 use Rattle.handles.specs.declared.GenerationalHandle.{GenerationalHandle}
+use Rattle.maps.specs.declared.bindings.Binding.{Binding}
 use Rattle.composition_state.specs.declared.registry.CompositionRegistry.{CompositionRegistry}
-use Rattle.records.specs.Errors.{isAccepted}
 use Rattle.composition_panels.specs.Metrics.{currentRevision}
-use Rattle.composition_close.specs.Close.{detached, closedPanel}
 use Rattle.input_events.specs.declared.event.PlatformInputEvent.{PlatformInputEvent}
 use Rattle.input_events.specs.ArbitrationEvents.{isDisconnect, isLoss}
 use Rattle.input_events.specs.RouterErrors.{isRouterAccepted}
-use Rattle.input_router.specs.declared.view_releases.ViewReleased.{ViewReleased}
-use Rattle.input_router.specs.Releases.{withoutDevicePresses}
-use Rattle.input_router.specs.ViewReleases.{releaseView}
 use Rattle.input_route.specs.Checks.{routeRefusal}
-use Rattle.input_route.specs.Route.{recordedEvent}
 use Rattle.calls.specs.declared.call.Call.{Call}
 use Rattle.calls.specs.declared.call.Call.the-variants.{Panel, Input, ReleaseDevice, Shortcut, Arbitrate, Close, Router, Read}
 use Rattle.calls.specs.declared.call.CloseCall.the-variants as close
@@ -23,8 +19,10 @@ use Rattle.calls.specs.declared.call.PanelCall.{PanelCall}
 use Rattle.calls.specs.declared.call.PanelCall.the-variants as panel
 use Rattle.calls.specs.declared.call.RouterCall.the-variants as router
 use Rattle.counter.specs.declared.step.Counter.{Counter}
-use Rattle.refusals.specs.Changes.{panelChange, inputChange, suspendChange, deviceChange, shortcutChange}
+use Rattle.refusals.specs.Changes.{panelChange, inputChange, deviceChange, shortcutChange, closeChange}
+use Rattle.refusals.specs.Left.{recordedBy, dropPresses, isPressBy, isPressIn, closedOwner, isKindBefore, inView, inEveryView, withoutDevice, lostView, panelOut}
 
+-- the cases of document 01's paragraph
 pub data Written : Type 0 where
   -- the refused call leaves registry and router as they came
   nothing : Written
@@ -36,29 +34,34 @@ pub data Written : Type 0 where
   order : PlatformInputEvent → Written
   -- "a disconnect .. refused 21 has dropped its presses unlisted", its captures too
   disconnect : PlatformInputEvent → Written
-  -- "a view's loss refused 21 has dropped its presses unlisted", and the view is suspended
+  -- "a view's loss refused 21 has dropped its presses unlisted", and focus, captures and composition of the view
   loss : PlatformInputEvent → Written
-  -- "a view release that meets a closed owner has dropped the kinds before it"
-  closed-owner : PlatformInputEvent → Written
-
--- the release of a lost view's presses, once the event is recorded
-abbrev pub viewRelease : Counter → PlatformInputEvent → ViewReleased
-viewRelease c x = releaseView (recordedEvent (c .router) x) (c .registry .surfaces) (x .header .view)
+  -- "a view release that meets a closed owner has dropped the kinds before it": the event, and the owner's press
+  closed-owner : PlatformInputEvent → Binding → Written
 
 -- what each case leaves of a counter; the sequence and time are recorded in all four cases of an event
-abbrev pub left : Counter → Written → Counter
-left c nothing = c
-left c (change r) = record { registry = r; router = c .router }
-left c (out-of-view h) = record { registry = detached h (c .registry); router = c .router }
-left c (order x) = record { registry = c .registry; router = recordedEvent (c .router) x }
-left c (disconnect x) = record {
-  registry = deviceChange (c .registry) (x .header .device .value) (x .header .device .generation);
-  router = withoutDevicePresses (recordedEvent (c .router) x) (x .header .device);
+abbrev pub afterRefusal : Counter → Written → Counter
+afterRefusal c nothing = c
+afterRefusal c (change r) = record { registry = r; router = c .router }
+afterRefusal c (out-of-view h) = record { registry = panelOut h (c .registry); router = c .router }
+afterRefusal c (order x) = record { registry = c .registry; router = recordedBy x (c .router) }
+afterRefusal c (disconnect x) = record {
+  registry = inEveryView (withoutDevice (x .header .device)) (c .registry);
+  router = dropPresses (isPressBy (x .header .device)) (recordedBy x (c .router));
 }
-left c (loss x) = record { registry = suspendChange (c .registry) (x .header .view); router = viewRelease c x .router }
-left c (closed-owner x) = record { registry = c .registry; router = viewRelease c x .router }
+afterRefusal c (loss x) = record {
+  registry = inView (x .header .view) lostView (c .registry);
+  router = dropPresses (isPressIn (c .registry) (x .header .view)) (recordedBy x (c .router));
+}
+afterRefusal c (closed-owner x owner) = record {
+  registry = c .registry;
+  router =
+      dropPresses (λ press. isKindBefore owner press && isPressIn (c .registry) (x .header .view) press)
+      (recordedBy x (c .router));
+}
 
 -- ---- "21 comes after the change, except in arbitrate, shutdown and the metrics' own counter"
+-- the change, if a test holds
 abbrev pub changeIf : Bool → CompositionRegistry → Written
 changeIf true r = change r
 changeIf false r = nothing
@@ -76,16 +79,22 @@ isOwnEnd r (panel.UpdateSurfaceInputPolicy a) = false
 
 -- ---- a panel's close, by the number of its refusal
 abbrev pub closeWritten : CompositionRegistry → GenerationalHandle → ℕ → Written
-closeWritten r h n = cond (eqb n 21) (change (closedPanel h r)) (cond (eqb n 22) (out-of-view h) nothing)
+closeWritten r h n = cond (eqb n 21) (change (closeChange r h)) (cond (eqb n 22) (out-of-view h) nothing)
 
 -- ---- a routed event: its checks come before anything is written
--- after them: a disconnect, a view's loss with or without a closed owner, or an event to arbitrate
+-- a view's loss, without a closed owner or with one
+abbrev pub lossWritten : PlatformInputEvent → Option Binding → Written
+lossWritten x none = loss x
+lossWritten x (some owner) = closed-owner x owner
+
+-- after the checks: a disconnect, a view's loss, or an event to arbitrate
 abbrev pub workWritten : Counter → PlatformInputEvent → Written
 workWritten c x =
     cond (isDisconnect (x .payload)) (disconnect x)
-    (cond (isLoss (x .payload)) (cond (isAccepted (viewRelease c x .outcome)) (loss x) (closed-owner x))
+    (cond (isLoss (x .payload)) (lossWritten x (closedOwner (c .registry) (c .router)))
     (order x))
 
+-- an event that its checks refuse has written nothing
 abbrev pub routeWritten : Counter → PlatformInputEvent → Written
 routeWritten c x = cond (isRouterAccepted (routeRefusal (c .registry) (c .router) x)) (workWritten c x) nothing
 
@@ -93,7 +102,7 @@ routeWritten c x = cond (isRouterAccepted (routeRefusal (c .registry) (c .router
 unfoldable pub writtenBy : Counter → Call → Lists → ℕ → Written
 writtenBy c (Panel call) l n = changeIf (not (isOwnEnd (c .registry) call) && eqb n 21) (panelChange (c .registry) call)
 writtenBy c (Input call) l n = changeIf (eqb n 21) (inputChange (c .registry) call)
-writtenBy c (ReleaseDevice a) l n = changeIf (eqb n 21) (deviceChange (c .registry) (a .device) (a .«device_generation»))
+writtenBy c (ReleaseDevice a) l n = changeIf (eqb n 21) (deviceChange (c .registry) a)
 writtenBy c (Shortcut call) l n = changeIf (eqb n 21) (shortcutChange (c .registry) call (l .registrations))
 writtenBy c (Arbitrate a) l n = nothing
 writtenBy c (Close (close.CloseSurface surface)) l n = closeWritten (c .registry) surface n
@@ -111,4 +120,4 @@ comesWith (out-of-view h) n = eqb n 22
 comesWith (order x) n = eqb n 8 || (eqb n 9 || eqb n 21)
 comesWith (disconnect x) n = eqb n 21
 comesWith (loss x) n = eqb n 21
-comesWith (closed-owner x) n = eqb n 11 || eqb n 12
+comesWith (closed-owner x owner) n = eqb n 11 || eqb n 12

@@ -3,9 +3,6 @@ use borrow.Author.Needs.{needs}
 use Rattle.counter.proofs.step.from_released.Statement.{statement}
 use Rattle.counter.proofs.step.from_released.Tie as tie
 
-refuse-if-requires : tie.Need-refuse-if-requires
-refuse-if-requires c κs = search needs
-
 of-releases-requires : tie.Need-of-releases-requires
 of-releases-requires c κs = search needs
 
@@ -13,7 +10,7 @@ of-report-requires : tie.Need-of-report-requires
 of-report-requires c κs = search needs
 
 returns : tie.Need-returns
-returns c = rw (c .before .of-report .ensures, c .before .before .of-releases .ensures, c .before .before .before .refuse-if .ensures)
+returns c = rw (c .before .of-report .ensures, c .before .before .of-releases .ensures)
 
 pub from-released-spec : {M : Type 1} → statement M
-from-released-spec = tie.close (tie.spec refuse-if-requires of-releases-requires of-report-requires returns)
+from-released-spec = tie.close (tie.spec of-releases-requires of-report-requires returns)
