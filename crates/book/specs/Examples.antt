@@ -56,7 +56,8 @@ abbrev pub finger : ℕ → ℕ → ℕ → GenerationalHandle → Binding
 finger value generation contact h = record { key = press.Pointer (pointerAt value generation contact); surface = h }
 
 abbrev pub keyOn : ℕ → ℕ → ℕ → GenerationalHandle → Binding
-keyOn value generation code h = record { key = press.Key (record { device = deviceAt value generation; «physical_key» = code }); surface = h }
+keyOn value generation code h =
+    record { key = press.Key (record { device = deviceAt value generation; «physical_key» = code }); surface = h }
 
 abbrev pub gamepadOn : ℕ → ℕ → GenerationalHandle → Binding
 gamepadOn value generation h = record { key = press.Gamepad (deviceAt value generation); surface = h }
@@ -72,7 +73,8 @@ eventOf device view x = Router (router.Route (record {
     view = view;
     device = device;
     «device_kind» = Touch;
-    modifiers = record { shift = false; control = false; alt = false; meta = false; «caps_lock» = false; «num_lock» = false };
+    modifiers =
+        record { shift = false; control = false; alt = false; meta = false; «caps_lock» = false; «num_lock» = false };
   };
   payload = x;
 }))
@@ -98,11 +100,20 @@ contact phase = eventOf (deviceAt 7 1) firstView (contactPayload 0 phase)
 
 abbrev pub keyEvent : ℕ → ℕ → KeyPhase → Bool → Call
 keyEvent value generation phase repeat =
-    eventOf (deviceAt value generation) firstView (payload.Key (record { phase = phase; «physical_key» = 30; repeat = repeat }))
+    eventOf (deviceAt value generation) firstView (payload.Key (record {
+      phase =
+          phase;
+      «physical_key» = 30;
+      repeat = repeat;
+    }))
 
 abbrev pub snapshot : ℕ → ℕ → Bool → Call
 snapshot value generation connected =
-    eventOf (deviceAt value generation) firstView (payload.GamepadSnapshot (record { connected = connected; mapping = Standard }))
+    eventOf (deviceAt value generation) firstView (payload.GamepadSnapshot (record {
+      connected =
+          connected;
+      mapping = Standard;
+    }))
 
 abbrev pub unplugged : Call
 unplugged = eventOf (deviceAt 7 1) firstView payload.DeviceDisconnected
@@ -156,7 +167,8 @@ delivery h observed = record { surface = h; observed = observed }
 
 -- ---- books
 abbrev pub homes : List Home
-homes = record { surface = paySheet; view = secondView } ∷ record { surface = holdBar; view = firstView } ∷ record { surface = seatMap; view = firstView } ∷ []
+homes = record { surface = paySheet; view = secondView } ∷ record { surface = holdBar; view = firstView }
+    ∷ record { surface = seatMap; view = firstView } ∷ []
 
 abbrev pub bookOf : List Binding → List Held → Book
 bookOf presses captures = record { presses = presses; captures = captures; homes = homes }

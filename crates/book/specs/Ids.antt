@@ -1,5 +1,5 @@
--- Document 01, Release order: what tells devices, presses and panels apart, and their orders. The book says this for itself and takes
--- no test of the router; that the router's tests and orders are these is proved in `history`.
+-- Document 01, Release order: what tells devices, presses and panels apart, and their orders. The book says this for
+-- itself and takes no test of the router; that the router's tests and orders are these is proved in `history`.
 use Prim.Native.Nat.{ℕ}
 use mathlib.Core.Bool.{Bool, true, false}
 use Rattle.lists.specs.Orders.{pairLt, pairSame, tripleLt, tripleSame}
@@ -61,7 +61,8 @@ isSamePress (Gamepad d) (Pointer p) = false
 isSamePress (Gamepad d) (Key k) = false
 isSamePress (Gamepad d) (Gamepad e) = isSameDevice d e
 
--- "Pointers by device, generation, contact; keys by device, generation, key; gamepads by device, generation": kind after kind
+-- "Pointers by device, generation, contact; keys by device, generation, key; gamepads by device, generation": kind
+-- after kind
 abbrev pub pressBefore : BindingKey → BindingKey → Bool
 pressBefore (Pointer p) (Pointer q) = pointerBefore p q
 pressBefore (Pointer p) (Key k) = true

@@ -73,9 +73,15 @@ snapshotChange false key to = ends key
 
 unfoldable pub payloadChange : PlatformInputPayload → InputDeviceId → OptionalHandle → Change
 payloadChange (payload.Pointer p) d to =
-    pointerChange (p .phase) (press.Pointer (record { device = d .value; «device_generation» = d .generation; contact = p .contact })) to
+    pointerChange (p .phase) (press.Pointer (record {
+      device =
+          d .value;
+      «device_generation» = d .generation;
+      contact = p .contact;
+    })) to
 payloadChange (payload.Wheel w) d to = leaves
-payloadChange (payload.Key k) d to = keyChange (k .phase) (k .repeat) (press.Key (record { device = d; «physical_key» = k .«physical_key» })) to
+payloadChange (payload.Key k) d to =
+    keyChange (k .phase) (k .repeat) (press.Key (record { device = d; «physical_key» = k .«physical_key» })) to
 payloadChange (payload.Shortcut s) d to = leaves
 payloadChange (payload.Text t) d to = leaves
 payloadChange (payload.Composition c) d to = leaves
@@ -85,7 +91,8 @@ payloadChange (payload.VisibilityChanged visible) d to = leaves
 payloadChange payload.DeviceDisconnected d to = leaves
 
 unfoldable pub routerChange : RouterCall → Told → Change
-routerChange (router.Route e) a = payloadChange (e .payload) (e .header .device) (receiver (a .consumer) (a .deliveries))
+routerChange (router.Route e) a =
+    payloadChange (e .payload) (e .header .device) (receiver (a .consumer) (a .deliveries))
 routerChange (router.ReleaseSurface h) a = leaves
 routerChange router.ReleaseAll a = leaves
 
@@ -134,8 +141,8 @@ notedPanel (panel.UpdateSurfaceInputPolicy a) made b = b
 abbrev pub primaryPointer : CompositionPointerId
 primaryPointer = record { device = 1; «device_generation» = 1; contact = 0 }
 
--- "Capture gives the panel the pointer in the panel's view; release of a pointer drops it if that panel has it; .. suspend .. drop the
--- captures of the .. view"
+-- "Capture gives the panel the pointer in the panel's view; release of a pointer drops it if that panel has it; ..
+-- suspend .. drop the captures of the .. view"
 unfoldable pub notedInput : InputCall → Book → Book
 notedInput (input.SetFocus a) b = b
 notedInput (input.CapturePointer a) b = withCapture primaryPointer (a .handle) b
@@ -155,14 +162,16 @@ notedClose close.Shutdown b = b
 unfoldable pub registered : Call → Told → Book → Book
 registered (Panel call) a b = notedPanel call (a .handle) b
 registered (Input call) a b = notedInput call b
-registered (ReleaseDevice x) a b = withoutCaptures (isHeldByDevice (record { value = x .device; generation = x .«device_generation» })) b
+registered (ReleaseDevice x) a b =
+    withoutCaptures (isHeldByDevice (record { value = x .device; generation = x .«device_generation» })) b
 registered (Shortcut call) a b = b
 registered (Arbitrate x) a b = b
 registered (Close call) a b = notedClose call b
 registered (Router call) a b = b
 registered (Read call) a b = b
 
--- ---- a call with its answer: what it registers, the press that it changes, and what it concerns, which is listed and so ends
+-- ---- a call with its answer: what it registers, the press that it changes, and what it concerns, which is listed and
+-- so ends
 unfoldable pub noted : Asked → Told → Book → Book
 noted x a b = withoutConcerned (concern (x .call)) (changed (change (x .call) a) (registered (x .call) a b))
 

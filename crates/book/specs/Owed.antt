@@ -1,4 +1,5 @@
--- Document 01, Release order: what a call concerns, what it has to list of that, and in which order, read from the book before it.
+-- Document 01, Release order: what a call concerns, what it has to list of that, and in which order, read from the book
+-- before it.
 use mathlib.Core.Bool.{Bool, true, false, not, cond, _&&_, _||_}
 use mathlib.Core.List.{List, [], _∷_, _++_, map}
 use Rattle.lists.specs.Lists.{keep, all}
@@ -15,7 +16,8 @@ use Rattle.calls.specs.declared.call.RouterCall.the-variants as router
 use Rattle.book.specs.Ids.{isSameHandle, handleBefore, isSamePress}
 use Rattle.book.specs.Book.{Asked, Told, isRefused, Held, Book, withPresses, withoutCaptures, isHeldByDevice, isHeldInView, isOfDevice, isOnPanel, isInView, withoutPresses}
 
--- ---- "Listed are the presses of that device id .., of the view's panels (both on an accepted routed event), of the panel, or all."
+-- ---- "Listed are the presses of that device id .., of the view's panels (both on an accepted routed event), of the
+-- panel, or all."
 pub data Concern : Type 0 where
   nothing : Concern
   device : InputDeviceId → Concern

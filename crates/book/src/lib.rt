@@ -1,5 +1,5 @@
-// The book of document 01: what is open and what is owed, read from calls and answers alone. Of the crates below it takes types only,
-// and functions of `lists`.
+// The book of document 01: what is open and what is owed, read from calls and answers alone. Of the crates below it
+// takes types only, and functions of `lists`.
 ghost use Rattle.book.specs.Claims.{BookClaims};
 
 // The book on document 01's own examples.

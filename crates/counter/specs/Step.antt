@@ -1,4 +1,5 @@
--- Any call of the port on any counter: each case is sent to the definition of its call. A refusal of the registry keeps its own number.
+-- Any call of the port on any counter: each case is sent to the definition of its call. A refusal of the registry keeps
+-- its own number.
 use Rattle.composition_state.specs.declared.registry.CompositionRegistry.{CompositionRegistry}
 use Rattle.composition_arbitration.specs.declared.arbitrate.Arbitrated.{Arbitrated}
 use Rattle.composition_arbitration.specs.Arbitration.{arbitrated}
@@ -31,31 +32,32 @@ use Rattle.read_step.specs.Reads.{readStep}
 use Rattle.registry_step.specs.Steps.{panelStep, inputStep, shortcutStep}
 
 -- an answer, and the counter after it
-abbrev pub answered : Answer → CompositionRegistry → PlatformInputRouter → Stepped
-answered a r t = record { answer = a; counter = record { registry = r; router = t } }
+abbrev pub steppedTo : Answer → CompositionRegistry → PlatformInputRouter → Stepped
+steppedTo a r t = record { answer = a; counter = record { registry = r; router = t } }
 
 -- a call on the registry leaves the router as it was
 abbrev pub fromRegistry : RegistryStepped → PlatformInputRouter → Stepped
-fromRegistry s t = answered (registryAnswer (s .outcome) (s .handle) (s .metrics) (s .«input_state»)) (s .registry) t
+fromRegistry s t = steppedTo (registryAnswer (s .outcome) (s .handle) (s .metrics) (s .«input_state»)) (s .registry) t
 
 abbrev pub fromCaptures : CapturesReleased → PlatformInputRouter → Stepped
-fromCaptures c t = answered (listingAnswer (c .outcome) (capturesListed (c .released))) (c .registry) t
+fromCaptures c t = steppedTo (listingAnswer (c .outcome) (capturesListed (c .released))) (c .registry) t
 
 abbrev pub fromArbitrated : Arbitrated → PlatformInputRouter → Stepped
-fromArbitrated a t = answered (reportAnswer (fromComposition (a .outcome)) (arbitrationAlone (a .result))) (a .registry) t
+fromArbitrated a t =
+    steppedTo (reportAnswer (fromComposition (a .outcome)) (arbitrationAlone (a .result))) (a .registry) t
 
 abbrev pub fromClosed : SurfaceClosed → PlatformInputRouter → Stepped
-fromClosed c t = answered (listingAnswer (c .outcome) (closeListed (c .report))) (c .registry) t
+fromClosed c t = steppedTo (listingAnswer (c .outcome) (closeListed (c .report))) (c .registry) t
 
 abbrev pub fromShutdown : Shutdown → PlatformInputRouter → Stepped
-fromShutdown s t = answered (listingAnswer (s .outcome) (shutdownListed (s .report))) (s .registry) t
+fromShutdown s t = steppedTo (listingAnswer (s .outcome) (shutdownListed (s .report))) (s .registry) t
 
 abbrev pub fromRouted : Routed → Stepped
-fromRouted x = answered (reportAnswer (x .outcome) (x .report)) (x .registry) (x .router)
+fromRouted x = steppedTo (reportAnswer (x .outcome) (x .report)) (x .registry) (x .router)
 
 -- `release_surface` and `release_all` refuse 42 only, and leave the registry as it was
 abbrev pub fromReleased : CompositionRegistry → Released → Stepped
-fromReleased r x = answered (reportAnswer (x .outcome) (releasesAlone (x .releases))) r (x .router)
+fromReleased r x = steppedTo (reportAnswer (x .outcome) (releasesAlone (x .releases))) r (x .router)
 
 -- a call that alters nothing leaves both as they were
 abbrev pub fromRead : Counter → ReadStepped → Stepped
@@ -73,7 +75,8 @@ routerStep c router.ReleaseAll = fromReleased (c .registry) (releaseAll (c .rout
 unfoldable pub stepped : Counter → Call → Lists → Stepped
 stepped c (Panel call) l = fromRegistry (panelStep (c .registry) call) (c .router)
 stepped c (Input call) l = fromRegistry (inputStep (c .registry) call) (c .router)
-stepped c (ReleaseDevice a) l = fromCaptures (releaseDevicePointerCaptures (c .registry) (a .device) (a .«device_generation»)) (c .router)
+stepped c (ReleaseDevice a) l =
+    fromCaptures (releaseDevicePointerCaptures (c .registry) (a .device) (a .«device_generation»)) (c .router)
 stepped c (Shortcut call) l = fromRegistry (shortcutStep (c .registry) call (l .registrations)) (c .router)
 stepped c (Arbitrate a) l = fromArbitrated (arbitrated (c .registry) (a .view) (a .event) (l .hits)) (c .router)
 stepped c (Close call) l = closeStep c call

@@ -103,10 +103,10 @@ nowhere {ℓ} : {A : Type 0} {P : Type ℓ} (before : List A) (e : A) (later : L
 nowhere [] e later q = let z : _≡_ {A = ℕ} 0 1 = cc in absurd (omega arith)
 nowhere (f ∷ before) e later q = let z : _≡_ {A = ℕ} 0 1 = cc in absurd (omega arith)
 
--- no call
-ended : (c : Counter) (b : Book) (p : Option GenerationalHandle) → Joined p c b → Traced b [] c
+-- the end of the list
+no-calls : (c : Counter) (b : Book) (p : Option GenerationalHandle) → Joined p c b → Traced b [] c
 unfolding history after bookAfter
-ended c b p j = record {
+no-calls c b p j = record {
   listed = λ before e later q. nowhere before e later q;
   once = λ before e later q. nowhere before e later q;
   one-panel = λ before e later q. nowhere before e later q;
@@ -163,7 +163,7 @@ more x l c b now own rest = record { listed = listed; once = once; one-panel = o
 
 traced : (l : List Asked) (c : Counter) (b : Book) (p : Option GenerationalHandle) → Safe c → Joined p c b → ReleasedNext p (history l c) → Premises (history l c) → Traced b l c
 unfolding history
-traced [] c b p v j must k = ended c b p j
+traced [] c b p v j must k = no-calls c b p j
 traced (x ∷ l) c b none v j must k =
     let f = k .0 in
     let own = call-goes c b v j (x .call) (x .lists) (f .no-shutdown) (record { not-21 = f .not-21; not-22 = f .not-22 }) in

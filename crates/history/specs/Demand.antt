@@ -23,11 +23,12 @@ use Rattle.history.specs.Histories.{Start, fresh, call, toldOf, releases
 
 -- an accepted start: any limits, first revision and first generation that document 01 does not refuse
 pub record Accepts (s : Start) : Type 0 where
-  pub registry : started (s .session) (s .epoch) (s .limits) (s .revision) (s .generation) .outcome ≡ composition.Accepted
+  pub registry : started (s .session) (s .epoch) (s .limits) (s .revision) (s .generation) .outcome
+      ≡ composition.Accepted
   pub router : startOutcome (s .bindings) ≡ router.Accepted
 
--- ---- the premises, and no others: no shutdown, no answer 21 or 22, each closed panel released in the router by the very next call
--- the panel that a call closes
+-- ---- the premises, and no others: no shutdown, no answer 21 or 22, each closed panel released in the router by the
+-- very next call the panel that a call closes
 abbrev pub closedBy : Call → Option GenerationalHandle
 closedBy (Close (CloseSurface h)) = some h
 closedBy (Close Shutdown) = none
@@ -76,7 +77,8 @@ Premises (e ∷ es) = CallPremises e es × Premises es
 -- ---- the claim
 -- wherever in the list a call stands: what it was and answered, and the calls before it
 abbrev pub Anywhere : Start → List Asked → (List Entry → Entry → Type 0) → Type 0
-Anywhere s l P = (before : List Entry) (e : Entry) (later : List Entry) → history l (fresh s) ≡ before ++ (e ∷ later) → P before e
+Anywhere s l P = (before : List Entry) (e : Entry) (later : List Entry) → history l (fresh s) ≡ before ++ (e ∷ later)
+    → P before e
 
 pub record NothingLost (s : Start) (l : List Asked) : Type 0 where
   -- the releases of a call are those that the book owes there, in document 01's order
@@ -84,7 +86,8 @@ pub record NothingLost (s : Start) (l : List Asked) : Type 0 where
   -- each once: no release stands there twice
   pub once : Anywhere s l (λ before e. noneTwice isSameRelease (e .listed) ≡ true)
   -- and of the part that comes from the book's presses no press is listed with two panels
-  pub one-panel : Anywhere s l (λ before e. noneTwice isSamePressOf (owedPresses (e .asked) (e .told) (bookAfter before emptyBook)) ≡ true)
+  pub one-panel : Anywhere s l
+      (λ before e. noneTwice isSamePressOf (owedPresses (e .asked) (e .told) (bookAfter before emptyBook)) ≡ true)
   -- after every call the router holds exactly the open presses, each with its panel
   pub held : (before later : List Asked) → l ≡ before ++ later
       → pressesOf (after before (fresh s) .router) ≡ bookAfter (history before (fresh s)) emptyBook .presses
@@ -100,4 +103,5 @@ pub record Demand3 : Type 0 where
 
 -- ---- beside it, without any premise: no list of calls leads to a counter that the damage test rejects
 pub record NeverDamaged : Type 0 where
-  pub sound : (s : Start) → Accepts s → (l : List Asked) → (isSound (after l (fresh s) .registry) ≡ true) × (isRouterSound (after l (fresh s) .router) ≡ true)
+  pub sound : (s : Start) → Accepts s → (l : List Asked) → (isSound (after l (fresh s) .registry) ≡ true)
+      × (isRouterSound (after l (fresh s) .router) ≡ true)

@@ -1,4 +1,5 @@
--- A list of calls on a counter from its start: what each call was and answered, and the counter and the book after them.
+-- A list of calls on a counter from its start: what each call was and answered, and the counter and the book after
+-- them.
 use Prim.Native.Nat.{ℕ}
 use mathlib.Core.List.{List, [], _∷_}
 use Rattle.lists.specs.Tables.{entriesOf}

@@ -1,4 +1,5 @@
--- Document 01, Release order, claimed of every sound router, whatever its history: what it lists for a panel, a device or a view rises.
+-- Document 01, Release order, claimed of every sound router, whatever its history: what it lists for a panel, a device
+-- or a view rises.
 use mathlib.Core.Path.{_≡_}
 use mathlib.Core.Bool.{Bool, true}
 use mathlib.Core.List.{List}

@@ -2,7 +2,8 @@
 ghost use Rattle.history.specs.Demand.{Demand3, NeverDamaged};
 ghost use Rattle.history.specs.ReleaseOrder.{ReleaseOrder};
 
-// Demand 3, nothing lost: every list of calls lists exactly the open presses concerned, and the router holds exactly the open ones.
+// Demand 3, nothing lost: every list of calls lists exactly the open presses concerned, and the router holds exactly
+// the open ones.
 pub fn demand_3()
     ensures { λ r. ⌜ Demand3 ⌝ }
 {}

@@ -50,7 +50,8 @@ isReleaseOf h (Read call) = false
 unfoldable pub isReleasedNext : Option GenerationalHandle → List Entry → Bool
 isReleasedNext none es = true
 isReleasedNext (some h) [] = true
-isReleasedNext (some h) (e ∷ es) = cond (isRead (e .asked .call)) (isReleasedNext (some h) es) (isReleaseOf h (e .asked .call))
+isReleasedNext (some h) (e
+    ∷ es) = cond (isRead (e .asked .call)) (isReleasedNext (some h) es) (isReleaseOf h (e .asked .call))
 
 unfoldable pub areReleased : List Entry → Bool
 areReleased [] = true
@@ -84,8 +85,8 @@ pressBooks s l = map (λ b. b .presses) (books (entries s l) emptyBook)
 abbrev pub captureBooks : Start → List Asked → List (List Held)
 captureBooks s l = map (λ b. b .captures) (books (entries s l) emptyBook)
 
--- ---- a list that meets the premises: a key is pressed and lost with the view's focus, pressed again, moved to a panel above, and released
--- after that panel's close, with a read in between
+-- ---- a list that meets the premises: a key is pressed and lost with the view's focus, pressed again, moved to a panel
+-- above, and released after that panel's close, with a read in between
 abbrev pub seatMap : GenerationalHandle
 seatMap = handleAt 0 3
 
@@ -128,16 +129,21 @@ pub record DeskExample : Type 0 where
   pub are-met : met (entries deskStart deskCalls) ≡ true ∷ true ∷ true ∷ true ∷ []
   pub answers : numbers deskStart deskCalls ≡ 0 ∷ 0 ∷ 0 ∷ 0 ∷ 0 ∷ 0 ∷ 32 ∷ 0 ∷ 0 ∷ 0 ∷ 0 ∷ 0 ∷ 0 ∷ 0 ∷ []
   pub releases : lists deskStart deskCalls
-      ≡ noPress ∷ noPress ∷ noPress ∷ noPress ∷ noPress ∷ (key seatMap ∷ finger 7 1 9 seatMap ∷ []) ∷ noPress ∷ noPress ∷ noPress ∷ noPress ∷ noPress ∷ noPress ∷ (key paySheet ∷ []) ∷ noPress ∷ []
+      ≡ noPress ∷ noPress ∷ noPress ∷ noPress ∷ noPress ∷ (key seatMap ∷ finger 7 1 9 seatMap ∷ []) ∷ noPress ∷ noPress
+      ∷ noPress ∷ noPress ∷ noPress ∷ noPress ∷ (key paySheet ∷ []) ∷ noPress ∷ []
   pub presses : pressBooks deskStart deskCalls
-      ≡ noPress ∷ noPress ∷ noPress ∷ (key seatMap ∷ []) ∷ (key seatMap ∷ []) ∷ noPress ∷ noPress ∷ (key seatMap ∷ []) ∷ (key seatMap ∷ []) ∷ (key paySheet ∷ []) ∷ (key paySheet ∷ []) ∷ (key paySheet ∷ []) ∷ noPress ∷ noPress ∷ []
+      ≡ noPress ∷ noPress ∷ noPress ∷ (key seatMap ∷ []) ∷ (key seatMap ∷ []) ∷ noPress ∷ noPress ∷ (key seatMap ∷ [])
+      ∷ (key seatMap ∷ []) ∷ (key paySheet ∷ []) ∷ (key paySheet ∷ []) ∷ (key paySheet ∷ []) ∷ noPress ∷ noPress
+      ∷ []
   pub captures : captureBooks deskStart deskCalls
-      ≡ noCapture ∷ noCapture ∷ noCapture ∷ noCapture ∷ (grip 9 (handleAt 0 3) seatMap ∷ []) ∷ noCapture ∷ noCapture ∷ noCapture ∷ noCapture ∷ noCapture ∷ noCapture ∷ noCapture ∷ noCapture ∷ noCapture ∷ []
+      ≡ noCapture ∷ noCapture ∷ noCapture ∷ noCapture ∷ (grip 9 (handleAt 0 3) seatMap ∷ []) ∷ noCapture ∷ noCapture
+      ∷ noCapture ∷ noCapture ∷ noCapture ∷ noCapture ∷ noCapture ∷ noCapture ∷ noCapture ∷ []
 
 -- ---- each premise is needed: on these lists the three others are met, and the claim fails
 -- a shutdown lets a capture go that the book keeps; the device's disconnect afterwards does not list it
 abbrev pub shutdownCalls : List Asked
-shutdownCalls = openWindow ∷ openView (handleAt 0 1) ∷ attach 1 0 ∷ capture (handleAt 0 1) 8 ∷ shutdown ∷ openWindow ∷ openView (handleAt 0 2) ∷ event 2 1 DeviceDisconnected ∷ []
+shutdownCalls = openWindow ∷ openView (handleAt 0 1) ∷ attach 1 0 ∷ capture (handleAt 0 1) 8 ∷ shutdown ∷ openWindow
+    ∷ openView (handleAt 0 2) ∷ event 2 1 DeviceDisconnected ∷ []
 
 -- the revision is at its end: a view's loss refused 21 has dropped the key unlisted
 abbrev pub lastRevisionCalls : List Asked
@@ -149,22 +155,26 @@ lastGeneration = 4294967295
 -- generations are at their end: a close refused 22 has let the capture go, and the disconnect does not list it
 abbrev pub lastGenerationCalls : List Asked
 lastGenerationCalls =
-    openWindow ∷ openView (handleAt 0 lastGeneration) ∷ attach lastGeneration 0 ∷ capture (handleAt 0 lastGeneration) 8 ∷ close (handleAt 0 lastGeneration)
+    openWindow ∷ openView (handleAt 0 lastGeneration) ∷ attach lastGeneration 0 ∷ capture (handleAt 0 lastGeneration) 8
+    ∷ close (handleAt 0 lastGeneration)
     ∷ event lastGeneration 1 DeviceDisconnected ∷ []
 
 -- a closed panel's gamepad is not released: a view's loss meets it, 12, and has dropped the other panel's key unlisted
 abbrev pub unreleasedCalls : List Asked
 unreleasedCalls =
-    openWindow ∷ openView (handleAt 0 1) ∷ attach 1 0 ∷ event 1 1 (snapshot true) ∷ attach 1 1 ∷ event 1 2 keyDown ∷ close (handleAt 0 1) ∷ event 1 3 focusLost ∷ []
+    openWindow ∷ openView (handleAt 0 1) ∷ attach 1 0 ∷ event 1 1 (snapshot true) ∷ attach 1 1 ∷ event 1 2 keyDown
+    ∷ close (handleAt 0 1) ∷ event 1 3 focusLost ∷ []
 
 pub record PremisesNeeded : Type 0 where
   pub shutdown-met : met (entries (startAt 5 1) shutdownCalls) ≡ false ∷ true ∷ true ∷ true ∷ []
   pub shutdown-answers : numbers (startAt 5 1) shutdownCalls ≡ 0 ∷ 0 ∷ 0 ∷ 0 ∷ 0 ∷ 0 ∷ 0 ∷ 0 ∷ []
   pub shutdown-fails : NothingLost (startAt 5 1) shutdownCalls → ⊥
-  pub last-revision-met : met (entries (startAt 18446744073709551611 1) lastRevisionCalls) ≡ true ∷ false ∷ true ∷ true ∷ []
+  pub last-revision-met : met (entries (startAt 18446744073709551611 1) lastRevisionCalls) ≡ true ∷ false ∷ true ∷ true
+      ∷ []
   pub last-revision-answers : numbers (startAt 18446744073709551611 1) lastRevisionCalls ≡ 0 ∷ 0 ∷ 0 ∷ 0 ∷ 21 ∷ []
   pub last-revision-fails : NothingLost (startAt 18446744073709551611 1) lastRevisionCalls → ⊥
-  pub last-generation-met : met (entries (startAt 5 lastGeneration) lastGenerationCalls) ≡ true ∷ true ∷ false ∷ true ∷ []
+  pub last-generation-met : met (entries (startAt 5 lastGeneration) lastGenerationCalls) ≡ true ∷ true ∷ false ∷ true
+      ∷ []
   pub last-generation-answers : numbers (startAt 5 lastGeneration) lastGenerationCalls ≡ 0 ∷ 0 ∷ 0 ∷ 0 ∷ 22 ∷ 0 ∷ []
   pub last-generation-fails : NothingLost (startAt 5 lastGeneration) lastGenerationCalls → ⊥
   pub unreleased-met : met (entries (startAt 5 1) unreleasedCalls) ≡ true ∷ true ∷ true ∷ false ∷ []

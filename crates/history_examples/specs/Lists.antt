@@ -31,7 +31,9 @@ abbrev pub startAt : ℕ → ℕ → Start
 startAt revision generation = record {
   session = handleAt 0 1;
   epoch = 1;
-  limits = record { «max_windows» = 1; «max_views» = 1; «max_surfaces» = 2; «max_surfaces_per_view» = 2; «max_trace_entries» = 1 };
+  limits =
+      record
+      { «max_windows» = 1; «max_views» = 1; «max_surfaces» = 2; «max_surfaces_per_view» = 2; «max_trace_entries» = 1 };
   revision = revision;
   generation = generation;
   bindings = 2;
@@ -50,11 +52,21 @@ openView window = ask (Panel (CreateView window))
 -- a panel of the view 0 with a generation
 abbrev pub attach : ℕ → ℕ → Asked
 attach generation z =
-    ask (Panel (AttachSurface (record { view = handleAt 0 generation; kind = Ui; «z_order» = pos z; input = Exclusive; «accepts_text» = false; geometry = defaultGeometry })))
+    ask (Panel (AttachSurface (record {
+      view =
+          handleAt 0 generation;
+      kind = Ui;
+      «z_order» = pos z;
+      input = Exclusive;
+      «accepts_text» = false;
+      geometry =
+          defaultGeometry;
+    })))
 
 -- contact 9 of device 7.1
 abbrev pub capture : GenerationalHandle → ℕ → Asked
-capture panel revision = ask (Input (CapturePointerFor (record { pointer = pointerAt 7 1 9; surface = panel; revision = revision })))
+capture panel revision =
+    ask (Input (CapturePointerFor (record { pointer = pointerAt 7 1 9; surface = panel; revision = revision })))
 
 -- an event of device 7.1 in window and view 0 with a generation, and its sequence number
 abbrev pub event : ℕ → ℕ → PlatformInputPayload → Asked
@@ -67,7 +79,8 @@ event generation n x = ask (Router (Route (record {
     view = handleAt 0 generation;
     device = deviceAt 7 1;
     «device_kind» = Keyboard;
-    modifiers = record { shift = false; control = false; alt = false; meta = false; «caps_lock» = false; «num_lock» = false };
+    modifiers =
+        record { shift = false; control = false; alt = false; meta = false; «caps_lock» = false; «num_lock» = false };
   };
   payload = x;
 })))

@@ -1,4 +1,5 @@
-// `route`, `release_surface` and `release_all` on a lent router: the host's router is one object, altered in place by each event.
+// `route`, `release_surface` and `release_all` on a lent router: the host's router is one object, altered in place by
+// each event.
 ghost use Rattle.in_place.specs.Contracts.{RouteInPlace, ReleaseSurfaceInPlace, ReleaseAllInPlace};
 use crate::router_parts::ReleaseAnswer;
 use crate::router_parts::RouteAnswer;

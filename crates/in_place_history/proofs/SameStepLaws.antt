@@ -1,13 +1,14 @@
 -- Each call of an in-place entry is the same step, by its contract and `stepped`'s cases; a list of calls by induction.
 use mathlib.Core.Path.{_≡_, refl, sym, ap, subst, _∙_}
-use mathlib.Core.List.{List, [], _∷_, map}
+use mathlib.Core.List.{List, [], _∷_, _++_, map}
 use Rattle.lists.specs.Tables.{entriesOf, packed}
+use Rattle.lists.proofs.ListLaws.{map-append}
 use Rattle.input_router.specs.Router.{pressesOf}
 use Rattle.book.specs.Book.{emptyBook}
 use Rattle.counter.specs.declared.step.Counter.{Counter}
 use Rattle.counter.specs.Answers.{releasesAlone}
 use Rattle.counter.specs.Step.{stepped, routerStep}
-use Rattle.history.specs.Demand.{Accepts, Kept}
+use Rattle.history.specs.Demand.{Accepts, Premises}
 use Rattle.history.specs.Histories.{Start, Entry, entryOf, after, history, bookAfter, fresh}
 use Rattle.history.proofs.HistoryLaws.{demand-3, never-damaged}
 use Rattle.in_place_history.specs.Claims.{stepFor, SameSteps, Demand3For, Demand3InPlace}
@@ -21,9 +22,9 @@ counter (release-surface g answer) c exit h = λ i. record { registry = h .0 i; 
 counter (release-all answer) c exit h = λ i. record { registry = h .0 i; router = h .1 .0 i }
 
 entry : (x : InPlaceCall) (c exit : Counter) → HoldsTo x c exit
-    → entryFor x ≡ entryOf (asked x .call) (stepFor x c .answer)
+    → entryFor x ≡ entryOf (asked x) (stepFor x c .answer)
 unfolding stepped routerStep releasesAlone entriesOf packed
-entry (step x answer) c exit h = ap (entryOf (x .call)) (h .1)
+entry (step x answer) c exit h = ap (entryOf x) (h .1)
 entry (route e answer) c exit h = ap (routeEntry e) (h .2)
 entry (release-surface g answer) c exit h = ap (releaseEntry _) (h .1 .1)
 entry (release-all answer) c exit h = ap (releaseEntry _) (h .1 .1)
@@ -52,13 +53,12 @@ module _ (s : Start) (a : Accepts s) (xs : List InPlaceCall) (exit : Counter) (h
 
   each : Demand3For s xs exit
   each = record {
-    listed = λ k before e later at.
-        let lost = demand-3 .nothing-lost s a (map asked xs) (subst Kept same k) in
-        (lost .listed before e later (sym same ∙ at), lost .once before e later (sym same ∙ at));
-    held = λ k.
-        ap (λ (c : Counter). pressesOf (c .router)) (counters xs (fresh s) exit h)
-        ∙ demand-3 .nothing-lost s a (map asked xs) (subst Kept same k) .held
-        ∙ ap (λ (es : List Entry). bookAfter es emptyBook .presses) (sym same);
+    nothing-lost = λ k. demand-3 .nothing-lost s a (map asked xs) (subst Premises same k);
+    held = λ k before later at between b.
+        ap (λ (c : Counter). pressesOf (c .router)) (counters before (fresh s) between b)
+        ∙ demand-3 .nothing-lost s a (map asked xs) (subst Premises same k) .held (map asked before) (map asked later)
+        (ap (map asked) at ∙ map-append asked before later)
+        ∙ ap (λ (es : List Entry). bookAfter es emptyBook .presses) (sym (entries before (fresh s) between b));
     sound = rw (counters xs (fresh s) exit h) (never-damaged .sound s a (map asked xs));
   }
 

@@ -15,7 +15,8 @@ use Rattle.calls.specs.declared.call.RouterCall.{RouterCall}
 use Rattle.calls.specs.declared.call.RouterCall.the-variants as router
 use Rattle.counter.specs.declared.answer.Answer.{Answer}
 use Rattle.counter.specs.declared.step.Counter.{Counter}
-use Rattle.history.specs.Histories.{Asked, Entry, entryOf}
+use Rattle.book.specs.Book.{Asked}
+use Rattle.history.specs.Histories.{Entry, entryOf}
 use Rattle.in_place.specs.declared.router_parts.ReleaseAnswer.{ReleaseAnswer}
 use Rattle.in_place.specs.declared.router_parts.RouteAnswer.{RouteAnswer}
 use Rattle.in_place.specs.Contracts.{StepInPlace, RouteInPlace, ReleaseSurfaceInPlace, ReleaseAllInPlace}
@@ -42,10 +43,23 @@ abbrev pub Leads : List InPlaceCall → Counter → Counter → Type 0
 Leads [] c exit = exit ≡ c
 Leads (x ∷ xs) c exit = (between : Counter) × (HoldsTo x c between × Leads xs between exit)
 
+-- the call of `step` that a call of an entry is; the router's calls take no lists
+abbrev pub noLists : Lists
+noLists = record { hits = packed hits []; registrations = packed registrations [] }
+
+abbrev pub routerCall : RouterCall → Asked
+routerCall call = record { call = Router call; lists = noLists }
+
+abbrev pub asked : InPlaceCall → Asked
+asked (step x answer) = x
+asked (route e answer) = routerCall (router.Route e)
+asked (release-surface h answer) = routerCall (router.ReleaseSurface h)
+asked (release-all answer) = routerCall router.ReleaseAll
+
 -- what the book is told of the answer of `route`, and the releases that it lists
 abbrev pub routeEntry : PlatformInputEvent → RouteAnswer → Entry
 routeEntry e a = record {
-  call = Router (router.Route e);
+  asked = routerCall (router.Route e);
   told = record {
     number = routerNumberOf (a .outcome);
     handle = handle.None;
@@ -58,25 +72,14 @@ routeEntry e a = record {
 -- what the book is told of the answer of a router release, and the releases that it lists
 abbrev pub releaseEntry : RouterCall → ReleaseAnswer → Entry
 releaseEntry call a = record {
-  call = Router call;
+  asked = routerCall call;
   told = record { number = routerNumberOf (a .outcome); handle = handle.None; consumer = handle.None; deliveries = [] };
   listed = entriesOf releases (a .releases);
 }
 
 -- the entry of the history that a call is
 abbrev pub entryFor : InPlaceCall → Entry
-entryFor (step x answer) = entryOf (x .call) answer
+entryFor (step x answer) = entryOf x answer
 entryFor (route e answer) = routeEntry e answer
 entryFor (release-surface h answer) = releaseEntry (router.ReleaseSurface h) answer
 entryFor (release-all answer) = releaseEntry router.ReleaseAll answer
-
--- the router's calls take no lists
-abbrev pub noLists : Lists
-noLists = record { hits = packed hits []; registrations = packed registrations [] }
-
--- the call of `step` that a call of an entry is
-abbrev pub asked : InPlaceCall → Asked
-asked (step x answer) = x
-asked (route e answer) = record { call = Router (router.Route e); lists = noLists }
-asked (release-surface h answer) = record { call = Router (router.ReleaseSurface h); lists = noLists }
-asked (release-all answer) = record { call = Router router.ReleaseAll; lists = noLists }

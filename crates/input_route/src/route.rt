@@ -43,7 +43,7 @@ fn held_for(router: PlatformInputRouter, event: PlatformInputEvent) -> OptionalH
 {
     match press_of(event) {
         OptionalPress::None => OptionalHandle::None,
-        OptionalPress::Some(key) => router.held(key),
+        OptionalPress::Some(key) => router.holder(key),
     }
 }
 

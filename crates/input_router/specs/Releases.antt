@@ -31,7 +31,8 @@ damagedRelease r = record { outcome = Refused Damaged; releases = packed release
 unfoldable pub releaseSurface : PlatformInputRouter → GenerationalHandle → Released
 releaseSurface r surface =
     cond (isRouterSound r)
-    (released (keep (isOn surface) (pressesOf r)) (withBindings (retained bindings (λ e. not (isOn surface e)) (r .bindings)) r))
+    (released (keep (isOn surface) (pressesOf r))
+    (withBindings (retained bindings (λ e. not (isOn surface e)) (r .bindings)) r))
     (damagedRelease r)
 
 -- all presses, panel by panel, by handle; then sequences and the time are forgotten
@@ -54,4 +55,5 @@ withoutDevicePresses r device = withBindings (retained bindings (λ e. not (isOf
 -- a disconnect forgets its device's sequence, not the shared time
 abbrev pub withoutDevice : PlatformInputRouter → InputDeviceId → PlatformInputRouter
 withoutDevice r device =
-    withSequences (removed sequences sequenceKey (deviceKey device) (r .«device_sequences»)) (withoutDevicePresses r device)
+    withSequences (removed sequences sequenceKey (deviceKey device) (r .«device_sequences»))
+    (withoutDevicePresses r device)

@@ -9,7 +9,7 @@ use maps::keys::BindingKey;
 
 impl PlatformInputRouter {
     // The panel that holds the press.
-    pub fn held(self, key: BindingKey) -> OptionalHandle
+    pub fn holder(self, key: BindingKey) -> OptionalHandle
         ensures { λ r. ⌜ r ≡ heldBy self key ⌝ }
     {
         self.bindings.get(key)

@@ -1,4 +1,5 @@
--- Document 01, What a refusal has written: "21 comes after the change". The change of each call, before the revision rises.
+-- Document 01, What a refusal has written: "21 comes after the change". The change of each call, before the revision
+-- rises.
 use Rattle.handles.specs.Slots.{released}
 use Rattle.handles.specs.declared.GenerationalHandle.{GenerationalHandle}
 use Rattle.handles.specs.declared.OptionalHandle.the-variants.{None, Some}
@@ -32,21 +33,30 @@ withSurfaceRecord surface s r = withSurfaces (withSurface surface s (r .surfaces
 unfoldable pub panelChange : CompositionRegistry → PanelCall → CompositionRegistry
 panelChange r panel.CreateWindow = withWindows (newWindow r .arena) r
 panelChange r (panel.CloseWindow window) = withWindows (released (r .windows) window .arena) r
-panelChange r (panel.CreateView window) = withViews (withView (newView r .handle) (freshView window) (viewsWith (newView r .arena) (r .views))) r
-panelChange r (panel.UpdateViewMetrics a) = withViewRecord (a .view) (withMetrics (newMetrics r (a .view) (a .update)) (viewAt (r .views) (a .view))) r
+panelChange r (panel.CreateView window) =
+    withViews (withView (newView r .handle) (freshView window) (viewsWith (newView r .arena) (r .views))) r
+panelChange r (panel.UpdateViewMetrics a) =
+    withViewRecord (a .view) (withMetrics (newMetrics r (a .view) (a .update)) (viewAt (r .views) (a .view))) r
 panelChange r (panel.CloseView view) = withViews (viewsWith (released (r .views .arena) view .arena) (r .views)) r
 panelChange r (panel.AttachSurface descriptor) = attached (newSurface r) descriptor r
-panelChange r (panel.UpdateSurfaceGeometry a) = withSurfaceRecord (a .surface) (withGeometry (a .geometry) (surfaceAt (r .surfaces) (a .surface))) r
-panelChange r (panel.UpdateSurfaceInputPolicy a) = withSurfaceRecord (a .surface) (withInput (a .input) (surfaceAt (r .surfaces) (a .surface))) r
+panelChange r (panel.UpdateSurfaceGeometry a) =
+    withSurfaceRecord (a .surface) (withGeometry (a .geometry) (surfaceAt (r .surfaces) (a .surface))) r
+panelChange r (panel.UpdateSurfaceInputPolicy a) =
+    withSurfaceRecord (a .surface) (withInput (a .input) (surfaceAt (r .surfaces) (a .surface))) r
 
 -- a view's focus, or what a panel has in its own view: a pointer, the composition
 unfoldable pub inputChange : CompositionRegistry → InputCall → CompositionRegistry
 inputChange r (input.SetFocus a) = withViewRecord (a .view) (withFocus (a .surface) (viewAt (r .views) (a .view))) r
-inputChange r (input.CapturePointer a) = withViewRecord (ownView r (a .handle)) (capturedView primary (a .handle) (ownRecord r (a .handle))) r
-inputChange r (input.CapturePointerFor a) = withViewRecord (ownView r (a .surface)) (capturedView (a .pointer) (a .surface) (ownRecord r (a .surface))) r
-inputChange r (input.ReleasePointer a) = withViewRecord (ownView r (a .handle)) (releasedView primary (ownRecord r (a .handle))) r
-inputChange r (input.ReleasePointerFor a) = withViewRecord (ownView r (a .surface)) (releasedView (a .pointer) (ownRecord r (a .surface))) r
-inputChange r (input.BeginIme a) = withViewRecord (ownView r (a .handle)) (withIme (Some (a .handle)) (ownRecord r (a .handle))) r
+inputChange r (input.CapturePointer a) =
+    withViewRecord (ownView r (a .handle)) (capturedView primary (a .handle) (ownRecord r (a .handle))) r
+inputChange r (input.CapturePointerFor a) =
+    withViewRecord (ownView r (a .surface)) (capturedView (a .pointer) (a .surface) (ownRecord r (a .surface))) r
+inputChange r (input.ReleasePointer a) =
+    withViewRecord (ownView r (a .handle)) (releasedView primary (ownRecord r (a .handle))) r
+inputChange r (input.ReleasePointerFor a) =
+    withViewRecord (ownView r (a .surface)) (releasedView (a .pointer) (ownRecord r (a .surface))) r
+inputChange r (input.BeginIme a) =
+    withViewRecord (ownView r (a .handle)) (withIme (Some (a .handle)) (ownRecord r (a .handle))) r
 inputChange r (input.EndIme a) = withViewRecord (ownView r (a .handle)) (withIme None (ownRecord r (a .handle))) r
 inputChange r (input.SuspendViewInput a) = inView (a .handle) lostView r
 

@@ -25,15 +25,20 @@ abbrev pub writtenWith : Counter → Call → Lists → PlatformInputError → W
 writtenWith c call l e = writtenBy c call l (routerErrorNumber e)
 
 pub record StepRefusals : Type 0 where
-  -- a refused call leaves registry and router as they came, but for what its case of document 01's paragraph has written
+  -- a refused call leaves registry and router as they came, but for what its case of document 01's paragraph has
+  -- written
   pub leaves : (c : Counter) (call : Call) (l : Lists) (e : PlatformInputError) → IsRefused c call l e
       → stepped c call l .counter ≡ afterRefusal c (writtenWith c call l e)
   -- and each case comes with its own numbers alone
-  pub comes-with : (c : Counter) (call : Call) (l : Lists) (e : PlatformInputError) → IsRefused c call l e → comesWith (writtenWith c call l e) (routerErrorNumber e) ≡ true
+  pub comes-with : (c : Counter) (call : Call) (l : Lists) (e : PlatformInputError) → IsRefused c call l e
+      → comesWith (writtenWith c call l e) (routerErrorNumber e) ≡ true
   -- "unlisted": its report is blank, with no release
-  pub unlisted : (c : Counter) (call : Call) (l : Lists) (e : PlatformInputError) → IsRefused c call l e → stepped c call l .answer .report ≡ noReport
+  pub unlisted : (c : Counter) (call : Call) (l : Lists) (e : PlatformInputError) → IsRefused c call l e
+      → stepped c call l .answer .report ≡ noReport
   -- "`release_surface` and `release_all` refuse 42 only"
-  pub release-surface : (c : Counter) (h : GenerationalHandle) (l : Lists) (e : PlatformInputError) → IsRefused c (Router (ReleaseSurface h)) l e → e ≡ Damaged
-  pub release-all : (c : Counter) (l : Lists) (e : PlatformInputError) → IsRefused c (Router ReleaseAll) l e → e ≡ Damaged
+  pub release-surface : (c : Counter) (h : GenerationalHandle) (l : Lists) (e : PlatformInputError)
+      → IsRefused c (Router (ReleaseSurface h)) l e → e ≡ Damaged
+  pub release-all : (c : Counter) (l : Lists) (e : PlatformInputError) → IsRefused c (Router ReleaseAll) l e → e
+      ≡ Damaged
   -- a read alters nothing, refused or not
   pub read : (c : Counter) (call : ReadCall) (l : Lists) → stepped c (Read call) l .counter ≡ c

@@ -112,7 +112,8 @@ writtenBy c (Router (router.ReleaseSurface surface)) l n = nothing
 writtenBy c (Router router.ReleaseAll) l n = nothing
 writtenBy c (Read call) l n = nothing
 
--- the numbers that each case comes with; an event's later ones are 8/9 of a system shortcut, 11/12 of a closed owner, and 21
+-- the numbers that each case comes with; an event's later ones are 8/9 of a system shortcut, 11/12 of a closed owner,
+-- and 21
 abbrev pub comesWith : Written → ℕ → Bool
 comesWith nothing n = true
 comesWith (change r) n = eqb n 21

@@ -1,4 +1,5 @@
--- How the book's captures and panels' views stand to a registry: both are read from it, and each panel that holds a capture is a live panel of that view.
+-- How the book's captures and panels' views stand to a registry: both are read from it, and each panel that holds a
+-- capture is a live panel of that view.
 use Prim.Native.Nat.{ℕ}
 use mathlib.Core.Path.{_≡_}
 use mathlib.Core.Bool.{Bool, true, false, _&&_, cond}
@@ -37,7 +38,9 @@ inView view c = record { view = view; capture = c }
 
 -- the captures of the view in a slot, and of all live views: by view slot, then by pointer
 abbrev pub heldAt : ViewTable → ℕ → List Held
-heldAt t i = cond (slotAt (t .arena) i .filled) (map (inView (viewHandle t i)) (entriesOf captures (viewAt t (viewHandle t i) .«pointer_captures»))) []
+heldAt t i =
+    cond (slotAt (t .arena) i .filled)
+    (map (inView (viewHandle t i)) (entriesOf captures (viewAt t (viewHandle t i) .«pointer_captures»))) []
 
 unfoldable pub heldIn : ViewTable → List Held
 heldIn t = iterBelow (λ i l. l ++ heldAt t i) (viewSlots t) []
@@ -54,10 +57,13 @@ pub record Agrees (r : CompositionRegistry) (b : Book) : Type 0 where
   pub held-well : all (isHeldWell r) (b .captures) ≡ true
   -- a live panel is a layer of its view, which is live
   pub layered : (h : GenerationalHandle) → isOpen r h ≡ true
-      → (isLive (viewStatus (r .views) (viewOf r h)) ≡ true) × (isAmong h (entriesOf layers (viewAt (r .views) (viewOf r h) .surfaces)) ≡ true)
+      → (isLive (viewStatus (r .views) (viewOf r h)) ≡ true)
+      × (isAmong h (entriesOf layers (viewAt (r .views) (viewOf r h) .surfaces)) ≡ true)
   -- a panel in a live view's single field has PRIMARY in that view's map
-  pub single-mapped : (view h : GenerationalHandle) → isLive (viewStatus (r .views) view) ≡ true → viewAt (r .views) view .«pointer_capture» ≡ Some h
-      → found captures captureKey (pointerKey primary) (viewAt (r .views) view .«pointer_captures») ≡ some (capture primary h)
+  pub single-mapped : (view h : GenerationalHandle) → isLive (viewStatus (r .views) view) ≡ true
+      → viewAt (r .views) view .«pointer_capture» ≡ Some h
+      → found captures captureKey (pointerKey primary) (viewAt (r .views) view .«pointer_captures»)
+      ≡ some (capture primary h)
 
 -- live panels stay live, in their views
 pub record Keeps (r after : CompositionRegistry) : Type 0 where
@@ -65,7 +71,8 @@ pub record Keeps (r after : CompositionRegistry) : Type 0 where
 
 -- live panels but one stay live, in their views
 pub record KeepsBut (gone : GenerationalHandle) (r after : CompositionRegistry) : Type 0 where
-  pub stays : (h : GenerationalHandle) → sameHandle gone h ≡ false → isOpen r h ≡ true → (isOpen after h ≡ true) × (viewOf after h ≡ viewOf r h)
+  pub stays : (h : GenerationalHandle) → sameHandle gone h ≡ false → isOpen r h ≡ true → (isOpen after h ≡ true)
+      × (viewOf after h ≡ viewOf r h)
 
 -- the book goes on agreeing, and live panels stay
 pub record Follows (r after : CompositionRegistry) (b : Book) : Type 0 where

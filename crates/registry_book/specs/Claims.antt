@@ -1,4 +1,5 @@
--- Document 01, Book, claimed of every call on the registry that is accepted: the book's captures and views after it are the registry's.
+-- Document 01, Book, claimed of every call on the registry that is accepted: the book's captures and views after it are
+-- the registry's.
 -- The tests are those of the registry's maps (`MapTests`).
 use Prim.Native.Nat.{ℕ}
 use mathlib.Core.Path.{_≡_}
@@ -46,40 +47,77 @@ captureOf x = x .capture
 pub record RegistryBookClaims : Type 0 where
   -- a start that is accepted, and the empty book
   pub start : (session : GenerationalHandle) (epoch : ℕ) (limits : CompositionLimits) (revision generation : ℕ)
-      → started session epoch limits revision generation .outcome ≡ Accepted → Agrees (started session epoch limits revision generation .registry) emptyBook
+      → started session epoch limits revision generation .outcome ≡ Accepted
+      → Agrees (started session epoch limits revision generation .registry) emptyBook
   -- calls that the book does not name
-  pub create-window : (r : CompositionRegistry) (b : Book) → Undamaged r → Agrees r b → createWindow r .outcome ≡ Accepted → Follows r (createWindow r .registry) b
-  pub close-window : (r : CompositionRegistry) (b : Book) (w : GenerationalHandle) → Undamaged r → Agrees r b → closeWindow r w .outcome ≡ Accepted → Follows r (closeWindow r w .registry) b
-  pub create-view : (r : CompositionRegistry) (b : Book) (w : GenerationalHandle) → Undamaged r → Agrees r b → createView r w .outcome ≡ Accepted → Follows r (createView r w .registry) b
-  pub close-view : (r : CompositionRegistry) (b : Book) (v : GenerationalHandle) → Undamaged r → Agrees r b → closeView r v .outcome ≡ Accepted → Follows r (closeView r v .registry) b
-  pub metrics : (r : CompositionRegistry) (b : Book) (v : GenerationalHandle) (u : ViewMetricsUpdate) (n : ℕ) → Undamaged r → Agrees r b → updateViewMetrics r v u n .outcome ≡ Accepted → Follows r (updateViewMetrics r v u n .registry) b
-  pub geometry : (r : CompositionRegistry) (b : Book) (h : GenerationalHandle) (g : SurfaceGeometry) (n : ℕ) → Undamaged r → Agrees r b → updateSurfaceGeometry r h g n .outcome ≡ Accepted → Follows r (updateSurfaceGeometry r h g n .registry) b
-  pub policy : (r : CompositionRegistry) (b : Book) (h : GenerationalHandle) (p : SurfaceInputPolicy) (n : ℕ) → Undamaged r → Agrees r b → updateSurfaceInputPolicy r h p n .outcome ≡ Accepted → Follows r (updateSurfaceInputPolicy r h p n .registry) b
-  pub focus : (r : CompositionRegistry) (b : Book) (v : GenerationalHandle) (h : OptionalHandle) (n : ℕ) → Undamaged r → Agrees r b → setFocus r v h n .outcome ≡ Accepted → Follows r (setFocus r v h n .registry) b
-  pub begin-ime : (r : CompositionRegistry) (b : Book) (h : GenerationalHandle) (n : ℕ) → Undamaged r → Agrees r b → beginIme r h n .outcome ≡ Accepted → Follows r (beginIme r h n .registry) b
-  pub end-ime : (r : CompositionRegistry) (b : Book) (h : GenerationalHandle) (n : ℕ) → Undamaged r → Agrees r b → endIme r h n .outcome ≡ Accepted → Follows r (endIme r h n .registry) b
-  pub register : (r : CompositionRegistry) (b : Book) (h : GenerationalHandle) (t : Registrations) (n : ℕ) → Undamaged r → Agrees r b → registerSurfaceSystemShortcutSet r h t n .outcome ≡ Accepted → Follows r (registerSurfaceSystemShortcutSet r h t n .registry) b
-  pub arbitrate : (r : CompositionRegistry) (b : Book) (v : GenerationalHandle) (e : ArbitrationEvent) (hits : Hits) → Undamaged r → Agrees r b → arbitrated r v e hits .outcome ≡ Accepted → Follows r (arbitrated r v e hits .registry) b
+  pub create-window : (r : CompositionRegistry) (b : Book) → Undamaged r → Agrees r b → createWindow r .outcome
+      ≡ Accepted → Follows r (createWindow r .registry) b
+  pub close-window : (r : CompositionRegistry) (b : Book) (w : GenerationalHandle) → Undamaged r → Agrees r b
+      → closeWindow r w .outcome ≡ Accepted → Follows r (closeWindow r w .registry) b
+  pub create-view : (r : CompositionRegistry) (b : Book) (w : GenerationalHandle) → Undamaged r → Agrees r b
+      → createView r w .outcome ≡ Accepted → Follows r (createView r w .registry) b
+  pub close-view : (r : CompositionRegistry) (b : Book) (v : GenerationalHandle) → Undamaged r → Agrees r b
+      → closeView r v .outcome ≡ Accepted → Follows r (closeView r v .registry) b
+  pub metrics : (r : CompositionRegistry) (b : Book) (v : GenerationalHandle) (u : ViewMetricsUpdate) (n : ℕ)
+      → Undamaged r → Agrees r b → updateViewMetrics r v u n .outcome ≡ Accepted
+      → Follows r (updateViewMetrics r v u n .registry) b
+  pub geometry : (r : CompositionRegistry) (b : Book) (h : GenerationalHandle) (g : SurfaceGeometry) (n : ℕ)
+      → Undamaged r → Agrees r b → updateSurfaceGeometry r h g n .outcome ≡ Accepted
+      → Follows r (updateSurfaceGeometry r h g n .registry) b
+  pub policy : (r : CompositionRegistry) (b : Book) (h : GenerationalHandle) (p : SurfaceInputPolicy) (n : ℕ)
+      → Undamaged r → Agrees r b → updateSurfaceInputPolicy r h p n .outcome ≡ Accepted
+      → Follows r (updateSurfaceInputPolicy r h p n .registry) b
+  pub focus : (r : CompositionRegistry) (b : Book) (v : GenerationalHandle) (h : OptionalHandle) (n : ℕ) → Undamaged r
+      → Agrees r b → setFocus r v h n .outcome ≡ Accepted → Follows r (setFocus r v h n .registry) b
+  pub begin-ime : (r : CompositionRegistry) (b : Book) (h : GenerationalHandle) (n : ℕ) → Undamaged r → Agrees r b
+      → beginIme r h n .outcome ≡ Accepted → Follows r (beginIme r h n .registry) b
+  pub end-ime : (r : CompositionRegistry) (b : Book) (h : GenerationalHandle) (n : ℕ) → Undamaged r → Agrees r b
+      → endIme r h n .outcome ≡ Accepted → Follows r (endIme r h n .registry) b
+  pub register : (r : CompositionRegistry) (b : Book) (h : GenerationalHandle) (t : Registrations) (n : ℕ)
+      → Undamaged r → Agrees r b → registerSurfaceSystemShortcutSet r h t n .outcome ≡ Accepted
+      → Follows r (registerSurfaceSystemShortcutSet r h t n .registry) b
+  pub arbitrate : (r : CompositionRegistry) (b : Book) (v : GenerationalHandle) (e : ArbitrationEvent) (hits : Hits)
+      → Undamaged r → Agrees r b → arbitrated r v e hits .outcome ≡ Accepted
+      → Follows r (arbitrated r v e hits .registry) b
   -- "Attach notes the view."
-  pub attach : (r : CompositionRegistry) (b : Book) (d : SurfaceDescriptor) → Undamaged r → Agrees r b → attachSurface r d .outcome ≡ Accepted → Follows r (attachSurface r d .registry) (notedAttach (attachSurface r d .handle) (d .view) b)
+  pub attach : (r : CompositionRegistry) (b : Book) (d : SurfaceDescriptor) → Undamaged r → Agrees r b
+      → attachSurface r d .outcome ≡ Accepted
+      → Follows r (attachSurface r d .registry) (notedAttach (attachSurface r d .handle) (d .view) b)
   -- "Capture gives the panel the pointer in the panel's view"
-  pub capture : (r : CompositionRegistry) (b : Book) (p : CompositionPointerId) (h : GenerationalHandle) (n : ℕ) → Undamaged r → Agrees r b → capturePointerFor r p h n .outcome ≡ Accepted → Follows r (capturePointerFor r p h n .registry) (captured p h b)
+  pub capture : (r : CompositionRegistry) (b : Book) (p : CompositionPointerId) (h : GenerationalHandle) (n : ℕ)
+      → Undamaged r → Agrees r b → capturePointerFor r p h n .outcome ≡ Accepted
+      → Follows r (capturePointerFor r p h n .registry) (captured p h b)
   -- "release of a pointer drops it if that panel has it"
-  pub release-for : (r : CompositionRegistry) (b : Book) (p : CompositionPointerId) (h : GenerationalHandle) (n : ℕ) → Undamaged r → Agrees r b → releasePointerFor r p h n .outcome ≡ Accepted → Follows r (releasePointerFor r p h n .registry) (withoutCaptures (isMapEntry p h) b)
-  pub release : (r : CompositionRegistry) (b : Book) (h : GenerationalHandle) (n : ℕ) → Undamaged r → Agrees r b → releasePointer r h n .outcome ≡ Accepted → Follows r (releasePointer r h n .registry) (withoutCaptures (isMapEntry primary h) b)
+  pub release-for : (r : CompositionRegistry) (b : Book) (p : CompositionPointerId) (h : GenerationalHandle) (n : ℕ)
+      → Undamaged r → Agrees r b → releasePointerFor r p h n .outcome ≡ Accepted
+      → Follows r (releasePointerFor r p h n .registry) (withoutCaptures (isMapEntry p h) b)
+  pub release : (r : CompositionRegistry) (b : Book) (h : GenerationalHandle) (n : ℕ) → Undamaged r → Agrees r b
+      → releasePointer r h n .outcome ≡ Accepted
+      → Follows r (releasePointer r h n .registry) (withoutCaptures (isMapEntry primary h) b)
   -- "device captures, suspend and a panel's close drop the captures of the device, view or panel"
-  pub device : (r : CompositionRegistry) (b : Book) (value generation : ℕ) → Undamaged r → Agrees r b → releaseDevicePointerCaptures r value generation .outcome ≡ Accepted
-      → Follows r (releaseDevicePointerCaptures r value generation .registry) (withoutCaptures (isOfMapDevice (record { value = value; generation = generation })) b)
-  pub suspend : (r : CompositionRegistry) (b : Book) (v : GenerationalHandle) (n : ℕ) → Undamaged r → Agrees r b → suspendViewInput r v n .outcome ≡ Accepted → Follows r (suspendViewInput r v n .registry) (withoutCaptures (isHeldInView v) b)
-  pub close : (r : CompositionRegistry) (b : Book) (h : GenerationalHandle) → Undamaged r → Agrees r b → closeSurface r h .outcome ≡ Accepted
-      → Agrees (closeSurface r h .registry) (withoutCaptures (isHeldOnPanel h) b) × KeepsBut h r (closeSurface r h .registry)
+  pub device : (r : CompositionRegistry) (b : Book) (value generation : ℕ) → Undamaged r → Agrees r b
+      → releaseDevicePointerCaptures r value generation .outcome ≡ Accepted
+      → Follows r (releaseDevicePointerCaptures r value generation .registry)
+      (withoutCaptures (isOfMapDevice (record { value = value; generation = generation })) b)
+  pub suspend : (r : CompositionRegistry) (b : Book) (v : GenerationalHandle) (n : ℕ) → Undamaged r → Agrees r b
+      → suspendViewInput r v n .outcome ≡ Accepted
+      → Follows r (suspendViewInput r v n .registry) (withoutCaptures (isHeldInView v) b)
+  pub close : (r : CompositionRegistry) (b : Book) (h : GenerationalHandle) → Undamaged r → Agrees r b
+      → closeSurface r h .outcome ≡ Accepted
+      → Agrees (closeSurface r h .registry) (withoutCaptures (isHeldOnPanel h) b)
+      × KeepsBut h r (closeSurface r h .registry)
   -- the captures of a device and of a live view are the book's, in its order
   pub device-list : (r : CompositionRegistry) (b : Book) (value generation : ℕ) → Undamaged r → Agrees r b
-      → deviceCaptures (r .views) value generation ≡ map captureOf (keep (isOfMapDevice (record { value = value; generation = generation })) (b .captures))
-  pub view-list : (r : CompositionRegistry) (b : Book) (v : GenerationalHandle) → Undamaged r → Agrees r b → isLive (viewStatus (r .views) v) ≡ true
-      → entriesOf captures (viewAt (r .views) v .«pointer_captures») ≡ map captureOf (keep (isHeldInView v) (b .captures))
+      → deviceCaptures (r .views) value generation
+      ≡ map captureOf (keep (isOfMapDevice (record { value = value; generation = generation })) (b .captures))
+  pub view-list : (r : CompositionRegistry) (b : Book) (v : GenerationalHandle) → Undamaged r → Agrees r b
+      → isLive (viewStatus (r .views) v) ≡ true
+      → entriesOf captures (viewAt (r .views) v .«pointer_captures»)
+      ≡ map captureOf (keep (isHeldInView v) (b .captures))
   -- who gets an event, and who takes it, is a live panel
-  pub delivered : (r : CompositionRegistry) (v : GenerationalHandle) (e : ArbitrationEvent) (hits : Hits) → Undamaged r → arbitrated r v e hits .outcome ≡ Accepted
+  pub delivered : (r : CompositionRegistry) (v : GenerationalHandle) (e : ArbitrationEvent) (hits : Hits) → Undamaged r
+      → arbitrated r v e hits .outcome ≡ Accepted
       → all (λ d. isOpen r (d .surface)) (entriesOf deliveries (arbitrated r v e hits .result .deliveries)) ≡ true
-  pub consumed : (r : CompositionRegistry) (v h : GenerationalHandle) (e : ArbitrationEvent) (hits : Hits) → Undamaged r → arbitrated r v e hits .outcome ≡ Accepted
+  pub consumed : (r : CompositionRegistry) (v h : GenerationalHandle) (e : ArbitrationEvent) (hits : Hits)
+      → Undamaged r → arbitrated r v e hits .outcome ≡ Accepted
       → arbitrated r v e hits .result .«consumed_by» ≡ Some h → isOpen r h ≡ true

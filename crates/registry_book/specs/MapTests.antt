@@ -1,4 +1,5 @@
--- Captures as the registry's maps test and order them. That the book's own tests and order say the same is proved in `history`.
+-- Captures as the registry's maps test and order them. That the book's own tests and order say the same is proved in
+-- `history`.
 use mathlib.Core.Bool.{Bool, _&&_}
 use mathlib.Core.Option.{Option, none, some}
 use Rattle.lists.specs.Maps.{insert}

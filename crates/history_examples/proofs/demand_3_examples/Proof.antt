@@ -107,10 +107,37 @@ unfolding allBelow countBelow iterBelow entriesOf packed pushed emptyArena looku
 returns c = record {
   desk = record {
     accepts = record { registry = refl; router = refl };
-    premises =
-        ( premises _ _ refl refl refl tt, ( premises _ _ refl refl refl tt, ( premises _ _ refl refl refl tt, ( premises _ _ refl refl refl tt, ( premises _ _ refl refl refl tt
-        , ( premises _ _ refl refl refl tt, ( premises _ _ refl refl refl tt, ( premises _ _ refl refl refl tt, ( premises _ _ refl refl refl tt, ( premises _ _ refl refl refl tt
-        , ( closing paySheet _ _ _ _ refl refl refl refl refl refl, ( premises _ _ refl refl refl tt, ( premises _ _ refl refl refl tt, ( premises _ _ refl refl refl tt, tt ))))))))))))));
+    premises = (
+      premises _ _ refl refl refl tt,
+      (
+        premises _ _ refl refl refl tt,
+        (
+          premises _ _ refl refl refl tt,
+          (
+            premises _ _ refl refl refl tt,
+            (
+              premises _ _ refl refl refl tt,
+              (
+                premises _ _ refl refl refl tt,
+                (
+                  premises _ _ refl refl refl tt,
+                  (
+                    premises _ _ refl refl refl tt,
+                    (
+                      premises _ _ refl refl refl tt,
+                      (
+                        premises _ _ refl refl refl tt,
+                        (closing paySheet _ _ _ _ refl refl refl refl refl refl, (premises _ _ refl refl refl tt, (premises _ _ refl refl refl tt, (premises _ _ refl refl refl tt, tt)))),
+                      ),
+                    ),
+                  ),
+                ),
+              ),
+            ),
+          ),
+        ),
+      ),
+    );
     are-met = refl;
     answers = refl;
     releases = refl;

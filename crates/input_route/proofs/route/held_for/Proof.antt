@@ -13,15 +13,15 @@ enum-told c = search needs
 enum-known-key : tie.Need-enum-known-key
 enum-known-key c = search needs
 
-held-requires : tie.Need-held-requires
-held-requires c κs = search needs
+holder-requires : tie.Need-holder-requires
+holder-requires c κs = search needs
 
 returns : tie.Need-returns
 returns c = rw (sym (c .before .before .press-of .ensures) ∙ c .enum-told .given .1)
 
 returns-2 : tie.Need-returns-2
-returns-2 c = rw (sym (c .before .before .before .before .press-of .ensures) ∙ c .before .before .key .given .1, c .held .ensures)
+returns-2 c = rw (sym (c .before .before .before .before .press-of .ensures) ∙ c .before .before .key .given .1, c .holder .ensures)
 
 pub held-for-spec : {M : Type 1} → statement M
 held-for-spec =
-    tie.close (tie.spec press-of-requires enum-told enum-known-key held-requires returns returns-2)
+    tie.close (tie.spec press-of-requires enum-told enum-known-key holder-requires returns returns-2)
