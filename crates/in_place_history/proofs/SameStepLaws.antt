@@ -50,7 +50,7 @@ module _ (s : Start) (a : Accepts s) (xs : List InPlaceCall) (exit : Counter) (h
   same : map entryFor xs ≡ history (map asked xs) (fresh s)
   same = entries xs (fresh s) exit h
 
-  each : Demand3For s xs exit
+  each : Demand3For xs exit
   each = record {
     listed = λ k before e later at.
         let lost = demand-3 .nothing-lost s a (map asked xs) (subst Kept same k) in

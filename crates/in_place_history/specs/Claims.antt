@@ -31,7 +31,7 @@ pub record SameSteps : Type 0 where
       → map entryFor xs ≡ history (map asked xs) c
 
 -- demand 3 of a list of calls that leads from a fresh start to a counter
-pub record Demand3For (s : Start) (xs : List InPlaceCall) (exit : Counter) : Type 0 where
+pub record Demand3For (xs : List InPlaceCall) (exit : Counter) : Type 0 where
   -- under demand 3's premises, wherever a call stands, its releases are those that the book owes there, none twice
   pub listed : Kept (map entryFor xs) → (before : List Entry) (e : Entry) (later : List Entry)
       → map entryFor xs ≡ before ++ (e ∷ later)
@@ -44,4 +44,4 @@ pub record Demand3For (s : Start) (xs : List InPlaceCall) (exit : Counter) : Typ
 -- and it holds of every such list, from every accepted start
 pub record Demand3InPlace : Type 0 where
   pub each : (s : Start) → Accepts s → (xs : List InPlaceCall) (exit : Counter)
-      → Leads xs (fresh s) exit → Demand3For s xs exit
+      → Leads xs (fresh s) exit → Demand3For xs exit

@@ -1,6 +1,6 @@
 -- Document 01, What a refusal has written: what is left of presses, captures, focus and layers, in the paper's terms.
 use Prim.Native.Nat.{ℕ, suc}
-use mathlib.Core.Bool.{Bool, true, false, cond, not, _&&_, _||_}
+use mathlib.Core.Bool.{Bool, false, cond, not, _&&_, _||_}
 use mathlib.Core.List.{List, [], _∷_, reverse}
 use mathlib.Core.Option.{Option, none, some}
 use lib.Dec.{eqb, ltb}
