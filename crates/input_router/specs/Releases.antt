@@ -1,5 +1,5 @@
 -- Document 01, Release order: `release_surface` and `release_all` refuse 42 only; the presses of a device.
-use mathlib.Core.Bool.{Bool, true, false, cond, not}
+use mathlib.Core.Bool.{Bool, cond, not}
 use mathlib.Core.List.{List, []}
 use Rattle.lists.specs.Lists.{keep}
 use Rattle.lists.specs.Tables.{packed}

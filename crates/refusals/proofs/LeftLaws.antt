@@ -1,5 +1,5 @@
 -- What `Left` says is what the calls' definitions leave: by cases of keys and statuses, and for a device slot by slot.
-use Prim.Native.Nat.{ℕ, zero, suc, _+_, _≤_, _<_}
+use Prim.Native.Nat.{ℕ, zero, suc, _+_, _<_}
 use mathlib.Core.Path.{_≡_, refl, sym, ap, _∙_}
 use mathlib.Core.Bool.{Bool, true, false, cond, not, _&&_, _||_}
 use mathlib.Core.List.{List, [], _∷_, reverse}
@@ -11,7 +11,7 @@ use lib.Dec.{eqb, ltb}
 use lib.ListN.{length, getD, set}
 use Rattle.lists.specs.Below.{iterBelow}
 use Rattle.lists.specs.Lists.{keep, first}
-use Rattle.lists.specs.Tables.{entriesOf, packed}
+use Rattle.lists.specs.Tables.{packed}
 use Rattle.lists.proofs.ListLaws.{by-test, and-both}
 use Rattle.lists.proofs.TableLaws.{entries-packed}
 use Rattle.handles.specs.declared.arena.SlotStatus.{SlotStatus}
@@ -22,7 +22,6 @@ use Rattle.handles.specs.declared.OptionalHandle.the-variants.{None}
 use Rattle.handles.specs.Handles.{holdsHandle}
 use Rattle.handles.specs.Slots.{slotAt}
 use Rattle.maps.specs.declared.bindings.Binding.{Binding}
-use Rattle.maps.specs.declared.captures.Capture.{Capture}
 use Rattle.maps.specs.declared.keys.BindingKey.{BindingKey}
 use Rattle.maps.specs.declared.keys.BindingKey.the-variants.{Pointer, Key, Gamepad}
 use Rattle.maps.specs.declared.keys.InputDeviceId.{InputDeviceId}
@@ -30,7 +29,6 @@ use Rattle.maps.specs.Captures.{captures}
 use Rattle.maps.specs.Keys.{bindingKey, deviceSame}
 use Rattle.maps.specs.MapTables.{isSome, retained}
 use Rattle.records.specs.declared.error.CompositionError.the-variants.{InvalidSurface, StaleSurface}
-use Rattle.records.specs.declared.surface.SurfaceTable.{SurfaceTable}
 use Rattle.records.specs.declared.view.ViewRecord.{ViewRecord}
 use Rattle.records.specs.declared.view.ViewTable.{ViewTable}
 use Rattle.records.specs.Errors.{isAccepted, statusRefusal}
@@ -47,10 +45,11 @@ use Rattle.input_router.specs.declared.view_releases.ViewReleased.{ViewReleased
 use Rattle.input_router.specs.Releases.{withoutDevicePresses}
 use Rattle.input_router.specs.Router.{pressesOf}
 use Rattle.input_router.specs.ViewReleases.{pressOf, releaseViewTo, releaseView}
-use Rattle.refusals.specs.Left.{any, dropPresses, deviceOf, sameDevice, isPressBy, isPressIn, kindOf, closedOwner, isKindBefore, inEveryView, isLiveSlot, changedFrom, isPrimary, isCaptureBy, losesPrimary, withoutDevice, capturesIn, layersBut, takesFocus, asHandle, focusLeft, isCaptureOn, fieldLeft, withoutPanel, panelOut}
+use Rattle.book.specs.Ids.{isSameDevice, pressDevice}
+use Rattle.refusals.specs.Left.{any, dropPresses, isPressBy, isPressIn, kindOf, closedOwner, isKindBefore, inEveryView, changedFrom, isPrimary, isCaptureBy, losesPrimary, withoutDevice, capturesIn, layersBut, takesFocus, asHandle, isCaptureOn, fieldLeft, withoutPanel, panelOut}
 
 -- ---- presses
-press-by : (d : InputDeviceId) (k : BindingKey) → sameDevice (deviceOf k) d ≡ deviceSame (bindingKey k) d
+press-by : (d : InputDeviceId) (k : BindingKey) → isSameDevice (pressDevice k) d ≡ deviceSame (bindingKey k) d
 press-by d (Pointer p) = refl
 press-by d (Key k) = refl
 press-by d (Gamepad e) = refl

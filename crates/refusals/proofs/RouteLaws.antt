@@ -1,5 +1,4 @@
 -- A refused event: its checks leave all; once they have passed, its work is refused as its payload says, and the sequence and time stay.
-use Prim.Native.Nat.{ℕ}
 use mathlib.Core.Path.{_≡_, refl, sym, ap, subst, _∙_}
 use mathlib.Core.Bool.{Bool, true, false, cond, not, _&&_}
 use mathlib.Core.Option.{Option, none, some}

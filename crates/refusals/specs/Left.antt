@@ -1,6 +1,6 @@
 -- Document 01, What a refusal has written: what is left of presses, captures, focus and layers, in the paper's terms.
 use Prim.Native.Nat.{ℕ, suc}
-use mathlib.Core.Bool.{Bool, true, false, cond, not, _&&_, _||_}
+use mathlib.Core.Bool.{Bool, false, cond, not, _&&_, _||_}
 use mathlib.Core.List.{List, [], _∷_, reverse}
 use mathlib.Core.Option.{Option, none, some}
 use lib.Dec.{eqb, ltb}
@@ -33,6 +33,7 @@ use Rattle.composition_state.specs.Registry.{withViews}
 use Rattle.input_events.specs.declared.event.PlatformInputEvent.{PlatformInputEvent}
 use Rattle.input_router.specs.declared.router.PlatformInputRouter.{PlatformInputRouter}
 use Rattle.input_router.specs.Router.{pressesOf, withBindings}
+use Rattle.book.specs.Ids.{isSameDevice, pointerDevice, pressDevice}
 
 -- some element of a list passes a test
 abbrev pub any : {E : Type 0} → (E → Bool) → List E → Bool
@@ -58,23 +59,9 @@ recordedBy x t = record {
 abbrev pub dropPresses : (Binding → Bool) → PlatformInputRouter → PlatformInputRouter
 dropPresses p t = withBindings (packed bindings (keep (λ x. not (p x)) (pressesOf t))) t
 
--- the device id of a pointer
-abbrev pub pointerDevice : CompositionPointerId → InputDeviceId
-pointerDevice p = record { value = p .device; generation = p .«device_generation» }
-
--- the device id of a press: of its pointer, of its device's key, of its gamepad
-abbrev pub deviceOf : BindingKey → InputDeviceId
-deviceOf (Pointer p) = pointerDevice p
-deviceOf (Key k) = k .device
-deviceOf (Gamepad d) = d
-
--- the same device id, value and generation
-abbrev pub sameDevice : InputDeviceId → InputDeviceId → Bool
-sameDevice d e = eqb (d .value) (e .value) && eqb (d .generation) (e .generation)
-
 -- "the presses of that device id (value and generation)"
 abbrev pub isPressBy : InputDeviceId → Binding → Bool
-isPressBy device x = sameDevice (deviceOf (x .key)) device
+isPressBy device x = isSameDevice (pressDevice (x .key)) device
 
 -- the presses "of the view's panels": the press's panel names that view as its own
 abbrev pub isPressIn : CompositionRegistry → GenerationalHandle → Binding → Bool
@@ -127,7 +114,7 @@ isPrimary p = eqb 1 (p .device) && (eqb 1 (p .«device_generation») && eqb 0 (p
 
 -- "the captures of the device": its value and generation
 abbrev pub isCaptureBy : InputDeviceId → Capture → Bool
-isCaptureBy device e = sameDevice (pointerDevice (e .pointer)) device
+isCaptureBy device e = isSameDevice (pointerDevice (e .pointer)) device
 
 -- PRIMARY's capture is one of the device's
 abbrev pub losesPrimary : InputDeviceId → ViewRecord → Bool
