@@ -26,7 +26,7 @@ use Rattle.calls.specs.declared.call.ShortcutCall.{ShortcutCall}
 use Rattle.book.specs.Book.{Told, Book, emptyBook, captureIn}
 use Rattle.book.specs.Notes.{receiver, note}
 use Rattle.book.specs.Owed.{owed}
-use Rattle.book.specs.Examples.{handleAt, seatMap, holdBar, paySheet, firstView, secondView, deviceAt, pointerAt, finger, keyOn, gamepadOn, eventOf, contact, keyEvent, snapshot, unplugged, focused, visible, panelReleased, allReleased, captureFor, releaseFor, suspended, deviceLetGo, panelClosed, accepted, takenBy, refusedWith, made, delivery, bookOf, pressed, capturing, grip}
+use Rattle.book.specs.Examples.{handleAt, seatMap, holdBar, paySheet, firstView, secondView, deviceAt, pointerAt, finger, keyOn, gamepadOn, eventOf, contactPayload, contact, keyEvent, snapshot, unplugged, focused, visible, panelReleased, allReleased, captureFor, releaseFor, suspended, deviceLetGo, panelClosed, accepted, takenBy, refusedWith, made, delivery, bookOf, pressed, capturing, grip}
 
 -- a call with its answer, from a book on: the book afterwards, and what is owed
 module _ (l : Lists) where
@@ -126,9 +126,9 @@ pub record OrderClaims (l : Lists) : Type 0 where
       ∷ []) (grip 9 firstView seatMap ∷ [])) ≡ []
   -- ---- "Pointers by device, generation, contact; keys by device, generation, key; gamepads by device, generation"
   -- not: by generation before device (6.9); by contact before generation (7.2.0); in the order of the Downs
-  pub pointers-by-device : after l (contact P.Down) (takenBy paySheet) (pressed (finger 6 9 5 seatMap
-      ∷ finger 7 1 3 seatMap ∷ finger 7 2 0 seatMap ∷ finger 8 1 0 seatMap ∷ [])) .presses
-      ≡ finger 6 9 5 seatMap ∷ finger 7 1 0 paySheet ∷ finger 7 1 3 seatMap ∷ finger 7 2 0 seatMap
+  pub pointers-by-device : after l (eventOf (deviceAt 7 1) firstView (contactPayload 3 P.Down)) (takenBy paySheet)
+      (pressed (finger 6 9 5 seatMap ∷ finger 7 1 4 seatMap ∷ finger 7 2 0 seatMap ∷ finger 8 1 0 seatMap ∷ [])) .presses
+      ≡ finger 6 9 5 seatMap ∷ finger 7 1 3 paySheet ∷ finger 7 1 4 seatMap ∷ finger 7 2 0 seatMap
       ∷ finger 8 1 0 seatMap ∷ []
   pub keys-by-device : after l (keyEvent 7 1 K.Down false) (takenBy paySheet) (pressed (keyOn 6 9 40 seatMap
       ∷ keyOn 7 1 31 seatMap ∷ keyOn 7 2 9 seatMap ∷ keyOn 8 1 9 seatMap ∷ [])) .presses
@@ -204,6 +204,14 @@ pub record NoteClaims (l : Lists) : Type 0 where
   pub capture-moves : after l (captureFor (pointerAt 7 1 9) holdBar) accepted (capturing (grip 9 firstView seatMap
       ∷ grip 9 secondView paySheet ∷ [])) .captures
       ≡ grip 9 firstView holdBar ∷ grip 9 secondView paySheet ∷ []
+  -- not: by pointer before view; by generation before device, or by contact before generation, within a view
+  pub capture-by-view : after l (captureFor (pointerAt 7 1 0) paySheet) accepted
+      (capturing (grip 9 firstView seatMap ∷ [])) .captures ≡ grip 9 firstView seatMap ∷ grip 0 secondView paySheet ∷ []
+  pub capture-by-pointer : after l (captureFor (pointerAt 7 1 8) seatMap) accepted
+      (capturing (captureIn firstView (pointerAt 6 9 9) holdBar ∷ grip 9 firstView holdBar
+      ∷ captureIn firstView (pointerAt 7 2 0) holdBar ∷ [])) .captures
+      ≡ captureIn firstView (pointerAt 6 9 9) holdBar ∷ grip 8 firstView seatMap ∷ grip 9 firstView holdBar
+      ∷ captureIn firstView (pointerAt 7 2 0) holdBar ∷ []
   -- ---- "release of a pointer drops it if that panel has it"
   -- not: a pointer dropped that another panel has; every pointer of the panel
   pub release-drops : after l (releaseFor (pointerAt 7 1 9) seatMap) accepted (capturing (grip 8 firstView seatMap
