@@ -34,8 +34,8 @@ use Rattle.answer_numbers.specs.Groups.{handleNumbers, optionalNumbers}
 use Rattle.answer_numbers.specs.Lists.{handlesNumbers}
 use Rattle.answer_numbers.specs.Numbers.{plain, listNumbers}
 use Rattle.answer_more.specs.Closing.{releasedNumbers, closeNumbers, reportNumbers, reportsNumbers, shutdownNumbers}
-use Rattle.answer_words.specs.Lengths.{Each}
-use Rattle.answer_words.proofs.EntryLaws.{each-take, each-set, each-same, each-more, list-few, list-fixed}
+use Rattle.answer_words.specs.Lengths.{All}
+use Rattle.answer_words.proofs.EntryLaws.{all-take, all-set, all-same, all-more, list-few, list-fixed}
 use Rattle.answer_words.proofs.EntryLaws.{packed-few, few-if, below-few}
 use Rattle.answer_words.proofs.SizeLaws.{optional-size}
 
@@ -90,18 +90,18 @@ closed-size r h = close-size (closeSurface r h .report) (closed-few (closeRefusa
 -- ---- the reports of a shutdown
 record Reported (t : CloseReports) : Type 0 where
   long : length (t .items) ≡ 256
-  few : Each FewReleases (t .items)
+  few : All FewReleases (t .items)
 
 none-reported : Reported (packed closeReports [])
 unfolding packed
-none-reported = record { long = length-replicate 256 noReport; few = each-same FewReleases 256 noReport blank-few }
+none-reported = record { long = length-replicate 256 noReport; few = all-same FewReleases 256 noReport blank-few }
 
 layer-reported : (h : GenerationalHandle) (w : Closing) → Reported (w .reports) → Reported (layerClosed h w .reports)
 unfolding layerClosed pushed
 layer-reported h w x = record {
   long = length-set (w .reports .items) (w .reports .len) _ ∙ x .long;
   few =
-      each-set FewReleases (w .reports .items) (w .reports .len) _ (x .few)
+      all-set FewReleases (w .reports .items) (w .reports .len) _ (x .few)
       (report-few (w .registry .surfaces) (w .registry .views) h _);
 }
 
@@ -134,7 +134,7 @@ unfolding entriesOf
 reports-size t x =
     let l = entriesOf closeReports t in
     list-few reportNumbers 10 256 l (table.few closeReports t (x .long))
-    (each-more FewReleases _ report-size l (each-take FewReleases (t .len) (t .items) (x .few)))
+    (all-more FewReleases _ report-size l (all-take FewReleases (t .len) (t .items) (x .few)))
 
 -- ---- the handles of a shutdown
 handles-size : (l : List GenerationalHandle) → length l ≤ 64 → length (handlesNumbers (packed handlesTable l)) ≤ 129

@@ -10,35 +10,35 @@ use Rattle.lists.specs.Below.{iterBelow}
 use Rattle.lists.specs.Tables.{Shape, entriesOf, packed}
 use Rattle.lists.proofs.TableLaws.{entries-packed}
 use Rattle.answer_numbers.specs.Numbers.{Number, each, listNumbers}
-use Rattle.answer_words.specs.Lengths.{Each}
+use Rattle.answer_words.specs.Lengths.{All}
 
 module _ {E : Type 0} (P : E → Type 0) where
-  pub each-all : ((e : E) → P e) → (l : List E) → Each P l
-  each-all f [] = tt
-  each-all f (e ∷ l) = (f e, each-all f l)
+  pub all-given : ((e : E) → P e) → (l : List E) → All P l
+  all-given f [] = tt
+  all-given f (e ∷ l) = (f e, all-given f l)
 
-  pub each-get : (l : List E) (i : ℕ) (d : E) → Each P l → P d → P (getD l i d)
-  each-get [] i d x y = y
-  each-get (e ∷ l) zero d x y = x .0
-  each-get (e ∷ l) (suc i) d x y = each-get l i d (x .1) y
+  pub all-get : (l : List E) (i : ℕ) (d : E) → All P l → P d → P (getD l i d)
+  all-get [] i d x y = y
+  all-get (e ∷ l) zero d x y = x .0
+  all-get (e ∷ l) (suc i) d x y = all-get l i d (x .1) y
 
-  pub each-take : (n : ℕ) (l : List E) → Each P l → Each P (take n l)
-  each-take zero l x = tt
-  each-take (suc n) [] x = tt
-  each-take (suc n) (e ∷ l) x = (x .0, each-take n l (x .1))
+  pub all-take : (n : ℕ) (l : List E) → All P l → All P (take n l)
+  all-take zero l x = tt
+  all-take (suc n) [] x = tt
+  all-take (suc n) (e ∷ l) x = (x .0, all-take n l (x .1))
 
-  pub each-set : (l : List E) (i : ℕ) (e : E) → Each P l → P e → Each P (set l i e)
-  each-set [] i e x y = tt
-  each-set (h ∷ l) zero e x y = (y, x .1)
-  each-set (h ∷ l) (suc i) e x y = (x .0, each-set l i e (x .1) y)
+  pub all-set : (l : List E) (i : ℕ) (e : E) → All P l → P e → All P (set l i e)
+  all-set [] i e x y = tt
+  all-set (h ∷ l) zero e x y = (y, x .1)
+  all-set (h ∷ l) (suc i) e x y = (x .0, all-set l i e (x .1) y)
 
-  pub each-same : (n : ℕ) (e : E) → P e → Each P (replicate n e)
-  each-same zero e y = tt
-  each-same (suc n) e y = (y, each-same n e y)
+  pub all-same : (n : ℕ) (e : E) → P e → All P (replicate n e)
+  all-same zero e y = tt
+  all-same (suc n) e y = (y, all-same n e y)
 
-  pub each-more : (Q : E → Type 0) → ((e : E) → P e → Q e) → (l : List E) → Each P l → Each Q l
-  each-more Q f [] x = tt
-  each-more Q f (e ∷ l) x = (f e (x .0), each-more Q f l (x .1))
+  pub all-more : (Q : E → Type 0) → ((e : E) → P e → Q e) → (l : List E) → All P l → All Q l
+  all-more Q f [] x = tt
+  all-more Q f (e ∷ l) x = (f e (x .0), all-more Q f l (x .1))
 
 -- ---- the numbers of entries
 module _ {E : Type 0} (f : E → List Number) (c : ℕ) where
@@ -47,19 +47,19 @@ module _ {E : Type 0} (f : E → List Number) (c : ℕ) where
   each-long h [] = omega arith
   each-long h (e ∷ l) = length-append (f e) (each f l) ∙ omega (arith, h e, each-long h l)
 
-  each-few : (l : List E) → Each (λ e. length (f e) ≤ c) l → length (each f l) ≤ c * length l
+  each-few : (l : List E) → All (λ e. length (f e) ≤ c) l → length (each f l) ≤ c * length l
   unfolding each
   each-few [] x = omega arith
   each-few (e ∷ l) x = simp length-append (omega (arith, x .0, each-few l (x .1)))
 
   -- a list of at most n entries of at most c numbers each
-  pub list-few : (n : ℕ) (l : List E) → length l ≤ n → Each (λ e. length (f e) ≤ c) l
+  pub list-few : (n : ℕ) (l : List E) → length l ≤ n → All (λ e. length (f e) ≤ c) l
       → length (listNumbers f l) ≤ 1 + c * n
   list-few n l h x = omega (arith, each-few l x, mul-le-mul-left c h)
 
   pub list-fixed : (n : ℕ) (l : List E) → length l ≤ n → ((e : E) → length (f e) ≤ c)
       → length (listNumbers f l) ≤ 1 + c * n
-  list-fixed n l h x = list-few n l h (each-all (λ e. length (f e) ≤ c) x l)
+  list-fixed n l h x = list-few n l h (all-given (λ e. length (f e) ≤ c) x l)
 
 -- ---- how many entries
 module _ {E T : Type 0} (s : Shape E T) where

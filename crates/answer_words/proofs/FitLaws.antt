@@ -1,4 +1,4 @@
--- Each list of an answer of `step` keeps to its call's bound, call by call; so its words are at most 4,608.
+-- All list of an answer of `step` keeps to its call's bound, call by call; so its words are at most 4,608.
 use Prim.Native.Nat.{ℕ, _+_, _≤_}
 use mathlib.Core.Bool.{Bool, true, false, cond}
 use mathlib.Core.List.{List, [], _++_}

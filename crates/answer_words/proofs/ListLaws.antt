@@ -37,8 +37,8 @@ use Rattle.composition_arbitration.specs.declared.walk.Walked.{Walked}
 use Rattle.composition_arbitration.specs.Arbitration.{alone, orAlone, walkIn, arbitration, ownHits, resolution}
 use Rattle.composition_arbitration.specs.Arbitration.{resultIf, concluded, arbitrated}
 use Rattle.composition_arbitration.specs.Layers.{delivers, consumes, untilConsumed, walked, walkOf}
-use Rattle.answer_words.specs.Lengths.{Each, ViewLengths}
-use Rattle.answer_words.proofs.EntryLaws.{each-get, packed-few, few-if, below-few}
+use Rattle.answer_words.specs.Lengths.{All, ViewLengths}
+use Rattle.answer_words.proofs.EntryLaws.{all-get, packed-few, few-if, below-few}
 
 -- ---- who gets an event
 abbrev pub FewDelivered : Deliveries → Type 0
@@ -70,10 +70,10 @@ result-few true n w x = x
 result-few false n w x = packed-few deliveries [] 16 (omega arith)
 
 -- ---- what the views hold
-module _ (views : ViewTable) (x : Each ViewLengths (views .records)) where
+module _ (views : ViewTable) (x : All ViewLengths (views .records)) where
   view-lengths : (h : GenerationalHandle) → ViewLengths (viewAt views h)
   unfolding packed
-  view-lengths h = each-get ViewLengths (views .records) (h .index) noView x (record { layers = refl; captures = refl })
+  view-lengths h = all-get ViewLengths (views .records) (h .index) noView x (record { layers = refl; captures = refl })
 
   pub layers-few : (h : GenerationalHandle) → length (entriesOf layers (viewAt views h .surfaces)) ≤ 16
   layers-few h = table.few layers (viewAt views h .surfaces) (view-lengths h .layers)
@@ -94,7 +94,7 @@ module _ (views : ViewTable) (x : Each ViewLengths (views .records)) where
     device-few =
         omega (arith, below-few (takenAt views device generation) 32 taken-few (viewSlots views), few-slots views)
 
-module _ (r : CompositionRegistry) (x : Each ViewLengths (r .views .records)) where
+module _ (r : CompositionRegistry) (x : All ViewLengths (r .views .records)) where
   pub released-few : (device generation : ℕ)
       → length (entriesOf captureList (releaseDevicePointerCaptures r device generation .released)) ≤ 512
   unfolding releaseDevicePointerCaptures

@@ -30,7 +30,7 @@ use Rattle.answer_more.specs.More.{moreOf}
 use Rattle.answer_columns.specs.Named.{handleFor}
 use Rattle.answer_words.specs.Answers.{releaseNumbers, releasesNumbers, capturesNumbers, shownNumbers}
 use Rattle.answer_words.specs.Answers.{answerWords, bytesOf}
-use Rattle.answer_words.specs.Lengths.{Each}
+use Rattle.answer_words.specs.Lengths.{All}
 use Rattle.answer_words.specs.Read.{numberRead, wordsRead, keyRead, releasesIn, releasesFrom, releasesRead}
 use Rattle.answer_words.proofs.EntryLaws.{each-long}
 
@@ -42,7 +42,7 @@ bytes-back (suc k) n h =
     let less : n / 256 < 256 ^ k = div-lt-iff-lt-mul {k = 256} {x = n} {y = 256 ^ k} (omega arith) .1 (omega arith) in
     omega (arith, div-add-mod' n 256, bytes-back k (n / 256) less)
 
-pub words-back : (l rest : List ℕ) → Each (λ n. n < 18446744073709551616) l
+pub words-back : (l rest : List ℕ) → All (λ n. n < 18446744073709551616) l
     → wordsRead (length l) (bytesOf l ++ rest) ≡ l
 unfolding wordsRead bytesOf flatten lowBytes
 words-back [] rest x = refl

@@ -50,7 +50,7 @@ use Rattle.input_releases.specs.declared.answer.Routed.{Routed}
 use Rattle.input_route.specs.Checks.{routeRefusal}
 use Rattle.input_route.specs.Route.{heldFor, hitsFor, arbitratedAfter, routedArbitration, routedPayload, recordedEvent}
 use Rattle.input_route.specs.Route.{routedAfter, routed}
-use Rattle.answer_words.specs.Lengths.{Each, ViewLengths}
+use Rattle.answer_words.specs.Lengths.{All, ViewLengths}
 use Rattle.answer_words.proofs.EntryLaws.{packed-few, few-if}
 use Rattle.answer_words.proofs.ListLaws.{FewDelivered, captures-few, released-few, arbitrated-few}
 
@@ -105,7 +105,7 @@ module _ (t : PlatformInputRouter) (h : length (t .bindings .entries) ≡ 128) w
       let l = pressesOf t in
       if-released (isRouterSound t) (byPanel l) _ (omega (arith, by-panel-length l, presses-few))
 
-  module _ (r : CompositionRegistry) (x : Each ViewLengths (r .views .records)) where
+  module _ (r : CompositionRegistry) (x : All ViewLengths (r .views .records)) where
     -- ---- a disconnect
     disconnect-after : (device : InputDeviceId) (c : CapturesReleased) (o : Outcome)
         → length (entriesOf captureList (c .released)) ≤ 512 → Few (disconnectAfter c t device o .report)
@@ -163,7 +163,7 @@ recorded-long : (t : PlatformInputRouter) (e : PlatformInputEvent)
     → length (t .bindings .entries) ≡ 128 → length (recordedEvent t e .bindings .entries) ≡ 128
 recorded-long t e h = by-test (hasPlace t (e .header .device) (e .header .sequence)) (λ q. rw q h) (λ q. rw q h)
 
-module _ (r : CompositionRegistry) (x : Each ViewLengths (r .views .records))
+module _ (r : CompositionRegistry) (x : All ViewLengths (r .views .records))
     (t : PlatformInputRouter) (h : length (t .bindings .entries) ≡ 128) (e : PlatformInputEvent) where
   routed-after : (o : RouterOutcome) → Few (routedAfter r t e o .report)
   routed-after Accepted = payload-few (recordedEvent t e) (recorded-long t e h) r x e

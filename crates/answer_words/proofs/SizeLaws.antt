@@ -26,8 +26,8 @@ use Rattle.answer_numbers.specs.Groups.{geometryNumbers, descriptorNumbers}
 use Rattle.registry_dump.specs.Traces.{eventFields, deliveryNumbers, traceNumbers, tracesNumbers}
 use Rattle.registry_dump.specs.Views.{describedNumbers}
 use Rattle.answer_words.specs.Answers.{releaseNumbers, answerNumbers}
-use Rattle.answer_words.specs.Lengths.{Each, TraceLengths}
-use Rattle.answer_words.proofs.EntryLaws.{each-take, each-more, each-long, list-few, list-fixed}
+use Rattle.answer_words.specs.Lengths.{All, TraceLengths}
+use Rattle.answer_words.proofs.EntryLaws.{all-take, all-more, each-long, list-few, list-fixed}
 
 pub optional-size : (o : OptionalHandle) → length (optionalNumbers o) ≡ 3
 optional-size O.None = refl
@@ -61,11 +61,11 @@ trace-size t x =
       list-fixed deliveryNumbers 3 16 (entriesOf deliveries (t .deliveries)) less (λ d. omega arith),
     ))
 
-pub traces-size : (t : Traces) → length (t .items) ≡ 32 → Each TraceLengths (t .items) → length (tracesNumbers t) ≤ 3073
+pub traces-size : (t : Traces) → length (t .items) ≡ 32 → All TraceLengths (t .items) → length (tracesNumbers t) ≤ 3073
 unfolding entriesOf
 traces-size t h x =
     list-few traceNumbers 96 32 (entriesOf traces t) (table.few traces t h)
-    (each-more TraceLengths _ trace-size (entriesOf traces t) (each-take TraceLengths (t .len) (t .items) x))
+    (all-more TraceLengths _ trace-size (entriesOf traces t) (all-take TraceLengths (t .len) (t .items) x))
 
 -- the answer's own numbers: eleven, and those of its three lists
 pub front-size : (revision : ℕ) (a : Answer) (named : OptionalHandle)

@@ -34,15 +34,15 @@ use Rattle.input_router.proofs.router.PlatformInputRouter as P
 use Rattle.input_router.proofs.router.PlatformInputRouter.Laws as P′
 use Rattle.counter.proofs.step.Counter as K
 use Rattle.counter.proofs.step.Counter.Laws as K′
-use Rattle.answer_words.specs.Lengths.{Each, ViewLengths, TraceLengths, Lengths}
+use Rattle.answer_words.specs.Lengths.{All, ViewLengths, TraceLengths, Lengths}
 
 -- what a type's relation gives of one entry holds of each entry of an array
-each-of : {E : Type 0} (R : RattleType) (into : E → R .Denot) (P : E → Type 0)
+all-of : {E : Type 0} (R : RattleType) (into : E → R .Denot) (P : E → Type 0)
     → ((e : E) (u : Val) → Is R (into e) (u ∷ []) → P e)
-    → (l : List E) (us : List Val) → shadow (each (R .Denot) (R .own) (map into l) us) → Each P l
-each-of R into P h [] us s = tt
-each-of R into P h (e ∷ l) [] s = absurd s
-each-of R into P h (e ∷ l) (u ∷ us) s = (h e u (s .0), each-of R into P h l us (s .1))
+    → (l : List E) (us : List Val) → shadow (each (R .Denot) (R .own) (map into l) us) → All P l
+all-of R into P h [] us s = tt
+all-of R into P h (e ∷ l) [] s = absurd s
+all-of R into P h (e ∷ l) (u ∷ us) s = (h e u (s .0), all-of R into P h l us (s .1))
 
 view-lengths : (v : ViewRecord) {vs : List Val} → Is W.the-row v vs → ViewLengths v
 view-lengths v {vs} p =
@@ -72,10 +72,10 @@ counter-lengths k {vs} p =
     record {
       presses = bindings.long (k .router .bindings) (b .1 .1 .1 .0);
       views =
-          each-of (field W.the-type .row) (field W.the-type .into) ViewLengths (λ v u p. view-lengths v p)
+          all-of (field W.the-type .row) (field W.the-type .into) ViewLengths (λ v u p. view-lengths v p)
           (k .registry .views .records) _ (v .1 .0 .1 .1);
       traces = traces.long (k .registry .traces) (o .1 .1 .1 .0);
       each-trace =
-          each-of (field C.the-type .row) (field C.the-type .into) TraceLengths (λ t u p. trace-lengths t p)
+          all-of (field C.the-type .row) (field C.the-type .into) TraceLengths (λ t u p. trace-lengths t p)
           (k .registry .traces .items) _ (t .0 .1 .1);
     }

@@ -13,7 +13,7 @@ use Rattle.counter.specs.declared.step.Counter.{Counter}
 use Rattle.counter.specs.Step.{stepped}
 use Rattle.answer_words.specs.Answers.{answerWords, bytesOf, answerPlaced}
 use Rattle.answer_words.specs.Bounds.{mostOf, Bounded}
-use Rattle.answer_words.specs.Lengths.{Each, Lengths}
+use Rattle.answer_words.specs.Lengths.{All, Lengths}
 use Rattle.answer_words.specs.Read.{wordsRead, releasesRead}
 
 -- the words of what `step` answers, for the counter after it
@@ -28,7 +28,7 @@ pub record WordClaims : Type 0 where
   -- the first word is the answer's number
   pub number : (call : Call) (a : Answer) (k : Counter) → getD (answerWords call a k) 0 0 ≡ routerNumberOf (a .outcome)
   -- words of 64 bits are read back from their bytes
-  pub words-back : (l rest : List ℕ) → Each (λ n. n < 18446744073709551616) l
+  pub words-back : (l rest : List ℕ) → All (λ n. n < 18446744073709551616) l
       → wordsRead (length l) (bytesOf l ++ rest) ≡ l
   -- the releases that an answer lists are read back from its words: each, in their order, and no other
   pub releases-back : (call : Call) (a : Answer) (k : Counter)

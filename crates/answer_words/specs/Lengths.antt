@@ -7,9 +7,9 @@ use Rattle.records.specs.declared.view.ViewRecord.{ViewRecord}
 use Rattle.counter.specs.declared.step.Counter.{Counter}
 
 -- what holds of each entry of a list
-abbrev pub Each : {E : Type 0} → (E → Type 0) → List E → Type 0
-Each P [] = Unit {0}
-Each P (e ∷ l) = P e × Each P l
+abbrev pub All : {E : Type 0} → (E → Type 0) → List E → Type 0
+All P [] = Unit {0}
+All P (e ∷ l) = P e × All P l
 
 -- a view's layers and captures
 pub record ViewLengths (v : ViewRecord) : Type 0 where
@@ -24,6 +24,6 @@ pub record TraceLengths (t : CompositionTrace) : Type 0 where
 -- the arrays that the lists of an answer are made from
 pub record Lengths (k : Counter) : Type 0 where
   pub presses : length (k .router .bindings .entries) ≡ 128
-  pub views : Each ViewLengths (k .registry .views .records)
+  pub views : All ViewLengths (k .registry .views .records)
   pub traces : length (k .registry .traces .items) ≡ 32
-  pub each-trace : Each TraceLengths (k .registry .traces .items)
+  pub each-trace : All TraceLengths (k .registry .traces .items)
