@@ -51,7 +51,7 @@ static void tell_releases(void)
     size_t at = DELIVERIES + 1 + 3 * (size_t)nibcobalt_number(answer, DELIVERIES);
     uint64_t count = nibcobalt_number(answer, at++);
     for (; count > 0; count--) {
-        /* Of a finger: 0, device, generation, contact, the panel's index and generation. */
+        /* Six numbers whatever the kind. Of a finger: 0, device, generation, contact, the panel's index and generation. */
         printf("  cancelled: device %" PRIu64 ".%" PRIu64 ", contact %" PRIu64 ", panel %" PRIu64 ".%" PRIu64 "\n",
                nibcobalt_number(answer, at + 1), nibcobalt_number(answer, at + 2),
                nibcobalt_number(answer, at + 3), nibcobalt_number(answer, at + 4),

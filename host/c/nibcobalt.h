@@ -81,6 +81,7 @@ typedef struct {
 } nibcobalt_registrations;
 
 #define NIBCOBALT_CALL_NUMBERS 32
+/* The bytes that a buffer for answers must have. Every answer fits: it is proved of the library. */
 #define NIBCOBALT_ANSWER_BYTES 36864
 
 /* Any call: its number, its fields, zeros behind them; and the lists beside it. */

@@ -1,1 +1,5 @@
 pub mod Answers
+pub mod Read
+pub mod Lengths
+pub mod Bounds
+pub mod Claims

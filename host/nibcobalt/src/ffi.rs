@@ -20,7 +20,7 @@ pub const CALL_NUMBERS: usize = 32;
 pub const HITS: usize = 16;
 /// The registrations that stand beside a call, at most.
 pub const REGISTRATIONS: usize = 64;
-/// The bytes that a buffer for answers must have.
+/// The bytes that a buffer for answers must have. Every answer fits: it is proved of the library.
 pub const ANSWER_BYTES: usize = 36_864;
 
 /// The memory of a counter: a registry and a router. It holds zeros, or what the library has written. Two counters are

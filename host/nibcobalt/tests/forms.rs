@@ -174,10 +174,16 @@ impl Host {
         self.message.call[..numbers.len()].copy_from_slice(numbers);
     }
 
+    /// The numbers of the answer.
+    fn numbers(&self) -> Vec<u64> {
+        let words = self.buffer.answer().chunks(8);
+        words.map(|word| u64::from_le_bytes(word.try_into().expect("eight bytes"))).collect()
+    }
+
     /// The first two numbers of the answer.
     fn answer(&self) -> [u64; 2] {
-        let bytes = self.buffer.answer();
-        [0, 8].map(|at| u64::from_le_bytes(bytes[at..at + 8].try_into().expect("eight bytes")))
+        let numbers = self.numbers();
+        [numbers[0], numbers[1]]
     }
 
     /// The status of the message.
@@ -442,4 +448,22 @@ fn a_thread_of_two_megabytes_is_enough() {
     let thread =
         std::thread::Builder::new().stack_size(2 << 20).spawn(all_calls).expect("a thread");
     thread.join().expect("all calls");
+}
+
+#[test]
+fn a_release_takes_six_numbers_whatever_its_kind() {
+    let mut host = Host::open();
+    let [_, revision] = host.answer();
+    host.accept(&[8, 0, 1, 1, 0, 1, revision]);
+    let touch: &[u64] = &[0, 4, 0, 5, 5, 0, 0, 0, 0, 0, 0, 0, 0];
+    let (key, gamepad, disconnect): (&[u64], &[u64], &[u64]) = (&[2, 0, 30, 0], &[6, 1, 0], &[9]);
+    for (sequence, payload) in (1..).zip([touch, key, gamepad, disconnect]) {
+        let mut event = vec![23, sequence, sequence, 1, 0, 1, 0, 1, 7, 1, 1, 0, 0, 0, 0, 0, 0];
+        event.extend(payload);
+        host.accept(&event);
+    }
+    let [_, revision] = host.answer();
+    let front = [0, revision, 0, 0, 0, 0];
+    let releases = [3, 0, 7, 1, 4, 0, 1, 1, 7, 1, 30, 0, 1, 2, 7, 1, 0, 0, 1];
+    assert_eq!(host.numbers(), [&front[..], &releases, &[0, 0, 0, 0, 0]].concat());
 }

@@ -94,21 +94,23 @@ impl<'a> Reader<'a> {
         InputDelivery { surface: self.handle(), observed: self.flag() }
     }
 
+    /// Six numbers whatever the kind: kind, device, contact or key (0 for a gamepad), panel.
     pub fn release(&mut self) -> SynthesizedInputRelease {
-        match self.number() {
+        let kind = self.number();
+        let device = self.device();
+        let code = self.small();
+        let surface = self.handle();
+        match kind {
             0 => SynthesizedInputRelease::PointerCancel {
-                pointer: self.pointer(),
-                surface: self.handle(),
+                pointer: CompositionPointerId {
+                    device: device.value,
+                    device_generation: device.generation,
+                    contact: code,
+                },
+                surface,
             },
-            1 => SynthesizedInputRelease::KeyUp {
-                device: self.device(),
-                physical_key: self.small(),
-                surface: self.handle(),
-            },
-            _ => SynthesizedInputRelease::GamepadDisconnected {
-                device: self.device(),
-                surface: self.handle(),
-            },
+            1 => SynthesizedInputRelease::KeyUp { device, physical_key: code, surface },
+            _ => SynthesizedInputRelease::GamepadDisconnected { device, surface },
         }
     }
 

@@ -1,10 +1,11 @@
--- `put_answer` meets its contract: the answer's own numbers, then what the call shows.
+-- `put_answer` meets its contract: the answer's own numbers, then what the call shows, are put as one list of words.
 use mathlib.Core.Path.{ap, _∙_}
 use Rattle.answer_numbers.specs.declared.sink.SinkKind.the-variants.{Words}
 use Rattle.answer_more.proofs.PlaceLaws.{ended}
 use Rattle.answer_more.specs.More.{moreOf}
 use Rattle.answer_more.specs.Place.{morePlaced}
-use Rattle.answer_words.specs.Answers.{answerPlaced}
+use Rattle.answer_words.specs.Answers.{answerWords, answerPlaced}
+use Rattle.answer_words.proofs.PlaceLaws.{words-put}
 use borrow.Author.Needs.{needs}
 use Rattle.answer_words.proofs.answered.put_answer.Statement.{statement}
 use Rattle.answer_words.proofs.answered.put_answer.Tie as tie
@@ -25,11 +26,15 @@ same-length : tie.Need-same-length
 same-length c = search needs
 
 returns : tie.Need-returns
-unfolding answerPlaced
+unfolding answerWords answerPlaced
 returns c =
-    let a = c .before .before .before .before .before .before .before .before .before .before .before .before .before .before .args in
-    c .before .before .put-more .ensures ∙ ap (morePlaced Words (moreOf (a .call) (a .answer) (a .counter)))
-    (ended Words _ _ _ (c .before .before .before .before .before .before .before .sink-from .ensures) (rw (c .before .before .before .before .before .before .before .before .before .named-handle .ensures) at (c .before .before .before .before .before .before .take-answer .ensures)))
+    let early = c .before .before .before .before .before .before in
+    let a = early .before .before .before .before .before .before .before .before .args in
+    let more = moreOf (a .call) (a .answer) (a .counter) in
+    let own = rw (early .before .before .before .named-handle .ensures) at (early .take-answer .ensures) in
+    c .before .before .put-more .ensures
+    ∙ ap (morePlaced Words more) (ended Words _ _ _ (early .before .sink-from .ensures) own)
+    ∙ words-put _ more _
 
 pub put-answer-spec : {M : Type 1} → statement M
 put-answer-spec =

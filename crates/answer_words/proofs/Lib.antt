@@ -1,0 +1,9 @@
+pub mod PlaceLaws
+pub mod ReadLaws
+pub mod TypeLaws
+pub mod EntryLaws
+pub mod SizeLaws
+pub mod ListLaws
+pub mod CloseLaws
+pub mod RouteLaws
+pub mod FitLaws
