@@ -30,7 +30,8 @@ pub const SHORTEST_BUFFER: u64 = 32;
 pub const BINDINGS: u64 = 128;
 
 /// What the Rust is handed for a configured limit. Windows, views and panels over 4,294,967,295 are
-/// 1 in the Rust and 41 by document 01's words; `limit.min(u32::MAX.into())` here would make them 41.
+/// 1: 41 is added where the Rust accepts and the port cannot; where the Rust itself refuses, its
+/// number stands.
 fn handed_to_rust(limit: u64) -> usize {
     usize::try_from(limit).unwrap_or(usize::MAX)
 }

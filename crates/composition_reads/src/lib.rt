@@ -5,7 +5,7 @@ ghost use Prim.Native.Nat.{_<_};
 ghost use Rattle.lists.specs.Tables.{entriesOf, packed, pushed};
 ghost use Rattle.records.specs.Layers.{layers as stateLayers};
 ghost use Rattle.records.specs.Surfaces.{descriptorOf};
-ghost use Rattle.composition_reads.specs.Reads.{viewReadRefusal, surfaceReadRefusal, viewWindow, viewMetrics, viewInputState, viewPointerCaptures, descriptors, viewLayers, surfaceDescriptor};
+ghost use Rattle.composition_reads.specs.Reads.{viewReadRefusal, surfaceReadRefusal, viewRead, surfaceRead, tracesRead, viewWindow, viewMetrics, viewInputState, viewPointerCaptures, descriptors, viewLayers, surfaceDescriptor};
 use composition_state::registry::CompositionRegistry;
 use geometry::metrics::ViewMetrics;
 use handles::GenerationalHandle;
@@ -13,11 +13,13 @@ use maps::captures::PointerCaptures;
 use records::error::Outcome;
 use records::layers::Layers;
 use records::surface::SurfaceDescriptor;
+use records::surface::SurfaceRecord;
 use records::surface::SurfaceTable;
 use records::trace::Traces;
 use records::view::ViewInputState;
+use records::view::ViewRecord;
 
-// What stands beside the outcome is the read value where it is accepted; where it is refused it means nothing.
+// What stands beside the outcome is the read value where it is accepted, and blank where it is refused.
 pub struct WindowRead {
     pub outcome: Outcome,
     pub window: GenerationalHandle,
@@ -51,6 +53,11 @@ pub struct LayersRead {
     pub descriptors: Descriptors,
 }
 
+pub struct TracesRead {
+    pub outcome: Outcome,
+    pub traces: Traces,
+}
+
 pub struct DescriptorRead {
     pub outcome: Outcome,
     pub descriptor: SurfaceDescriptor,
@@ -68,11 +75,33 @@ fn surface_read_refusal(registry: CompositionRegistry, surface: GenerationalHand
     registry.damage().then(registry.surfaces.refusal(surface))
 }
 
+// The record of a view, and a blank one where the read is refused.
+fn view_read(registry: CompositionRegistry, view: GenerationalHandle) -> ViewRecord
+    ensures { λ r. ⌜ r ≡ viewRead registry view ⌝ }
+{
+    if view_read_refusal(registry, view).is_accepted() {
+        return registry.views.record(view);
+    }
+    ViewRecord::new(GenerationalHandle {
+        index: 0,
+        generation: 0,
+    })
+}
+
+fn surface_read(registry: CompositionRegistry, surface: GenerationalHandle) -> SurfaceRecord
+    ensures { λ r. ⌜ r ≡ surfaceRead registry surface ⌝ }
+{
+    if surface_read_refusal(registry, surface).is_accepted() {
+        return registry.surfaces.record(surface);
+    }
+    records::surface::blank()
+}
+
 pub fn view_window(registry: CompositionRegistry, view: GenerationalHandle) -> WindowRead
     ensures { λ r. ⌜ r ≡ viewWindow registry view ⌝ }
 {
     let outcome = view_read_refusal(registry, view);
-    let record = registry.views.record(view);
+    let record = view_read(registry, view);
     let window = record.window;
     WindowRead { outcome, window }
 }
@@ -81,7 +110,7 @@ pub fn view_metrics(registry: CompositionRegistry, view: GenerationalHandle) -> 
     ensures { λ r. ⌜ r ≡ viewMetrics registry view ⌝ }
 {
     let outcome = view_read_refusal(registry, view);
-    let record = registry.views.record(view);
+    let record = view_read(registry, view);
     let metrics = record.metrics;
     MetricsRead { outcome, metrics }
 }
@@ -90,7 +119,7 @@ pub fn view_input_state(registry: CompositionRegistry, view: GenerationalHandle)
     ensures { λ r. ⌜ r ≡ viewInputState registry view ⌝ }
 {
     let outcome = view_read_refusal(registry, view);
-    let state = registry.views.record(view).input_state();
+    let state = view_read(registry, view).input_state();
     InputStateRead { outcome, state }
 }
 
@@ -101,7 +130,7 @@ pub fn view_pointer_captures(
     ensures { λ r. ⌜ r ≡ viewPointerCaptures registry view ⌝ }
 {
     let outcome = view_read_refusal(registry, view);
-    let record = registry.views.record(view);
+    let record = view_read(registry, view);
     let captures = record.pointer_captures;
     CapturesRead { outcome, captures }
 }
@@ -149,7 +178,7 @@ pub fn view_layers(registry: CompositionRegistry, view: GenerationalHandle) -> L
     ensures { λ r. ⌜ r ≡ viewLayers registry view ⌝ }
 {
     let outcome = view_read_refusal(registry, view);
-    let record = registry.views.record(view);
+    let record = view_read(registry, view);
     let layers = record.surfaces;
     let descriptors = describe(registry.surfaces, layers);
     LayersRead {
@@ -166,11 +195,25 @@ pub fn surface_descriptor(
     ensures { λ r. ⌜ r ≡ surfaceDescriptor registry surface ⌝ }
 {
     let outcome = surface_read_refusal(registry, surface);
-    let descriptor = registry.surfaces.descriptor(surface);
+    let record = surface_read(registry, surface);
+    let descriptor = record.descriptor;
     DescriptorRead {
         outcome,
         descriptor,
     }
+}
+
+// The last arbitrations, oldest first.
+pub fn traces(registry: CompositionRegistry) -> TracesRead
+    ensures { λ r. ⌜ r ≡ tracesRead registry ⌝ }
+{
+    let outcome = registry.damage();
+    if outcome.is_accepted() {
+        let traces = registry.traces;
+        return TracesRead { outcome, traces };
+    }
+    let traces = Traces::new();
+    TracesRead { outcome, traces }
 }
 
 // The plain read-outs, which no registry refuses.
@@ -190,13 +233,6 @@ pub fn revision(registry: CompositionRegistry) -> u64
     ensures { λ r. ⌜ r ≡ registry .revision ⌝ }
 {
     registry.revision
-}
-
-// The last arbitrations, oldest first.
-pub fn traces(registry: CompositionRegistry) -> Traces
-    ensures { λ r. ⌜ r ≡ registry .traces ⌝ }
-{
-    registry.traces
 }
 
 pub fn live_window_count(registry: CompositionRegistry) -> usize

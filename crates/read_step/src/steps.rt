@@ -1,6 +1,6 @@
 // Each call that alters nothing.
 ghost use mathlib.Core.Path.{_≡_};
-ghost use Rattle.read_step.specs.Reads.{shownIf, readOf, hitRead, localRead, readStep};
+ghost use Rattle.read_step.specs.Reads.{shownIf, readOf, hitRead, localRead, tracesStep, countsStep, routerDamage, openStep, readStep};
 use crate::answer::Shown;
 use crate::answer::count;
 use crate::hits::HitNumbers;
@@ -17,6 +17,7 @@ use composition_reads::view_pointer_captures;
 use composition_reads::view_window;
 use composition_state::registry::CompositionRegistry;
 use input_router::router::PlatformInputRouter;
+use records::error::CompositionError;
 use records::error::Outcome;
 
 pub struct ReadStepped {
@@ -65,6 +66,37 @@ fn read_local(given: InversePointArguments) -> ReadStepped
     read(Outcome::Accepted, Shown::Local(local))
 }
 
+fn read_traces(registry: CompositionRegistry) -> ReadStepped
+    ensures { λ r. ⌜ r ≡ tracesStep registry ⌝ }
+{
+    read(registry.damage(), Shown::Traces)
+}
+
+fn read_counts(registry: CompositionRegistry) -> ReadStepped
+    ensures { λ r. ⌜ r ≡ countsStep registry ⌝ }
+{
+    read(registry.damage(), Shown::Counts(count(registry)))
+}
+
+// A damaged router is refused 42, as a damaged registry is.
+fn router_damage(router: PlatformInputRouter) -> Outcome
+    ensures { λ r. ⌜ r ≡ routerDamage router ⌝ }
+{
+    if router.is_sound() {
+        return Outcome::Accepted;
+    }
+    Outcome::Refused(CompositionError::Damaged)
+}
+
+fn read_open_presses(router: PlatformInputRouter) -> ReadStepped
+    ensures { λ r. ⌜ r ≡ openStep router ⌝ }
+{
+    read(
+        router_damage(router),
+        Shown::BindingCount(router.active_binding_count() as u64),
+    )
+}
+
 pub fn read_step(
     registry: CompositionRegistry,
     router: PlatformInputRouter,
@@ -107,12 +139,9 @@ pub fn read_step(
             let outcome = found.outcome;
             read(outcome, Shown::Layers(view))
         }
-        ReadCall::Traces => read(Outcome::Accepted, Shown::Traces),
-        ReadCall::Counts => read(Outcome::Accepted, Shown::Counts(count(registry))),
-        ReadCall::ActiveBindingCount => read(
-            Outcome::Accepted,
-            Shown::BindingCount(router.active_binding_count() as u64),
-        ),
+        ReadCall::Traces => read_traces(registry),
+        ReadCall::Counts => read_counts(registry),
+        ReadCall::ActiveBindingCount => read_open_presses(router),
         ReadCall::HitTestStack(given) => read_hits(registry, given),
         ReadCall::InversePoint(given) => read_local(given),
     }

@@ -430,8 +430,8 @@ fn memory_of_zeros_is_refused_42() {
     for form in forms() {
         host.message.call = form.call();
         assert_eq!(host.call(), 0);
-        // Traces, counts, presses and an inverse point are read without a refusal.
-        let number = if matches!(form.numbers[0], 32..=34 | 36) { 0 } else { 42 };
+        // An inverse point is asked of no state.
+        let number = if form.numbers[0] == 36 { 0 } else { 42 };
         assert_eq!(host.answer(), [number, 0], "{:?}", form.numbers);
     }
 }

@@ -6,15 +6,15 @@ use Rattle.composition_reads.proofs.view_input_state.Tie as tie
 view-read-refusal-requires : tie.Need-view-read-refusal-requires
 view-read-refusal-requires c κs = search needs
 
-record-requires : tie.Need-record-requires
-record-requires c κs = search needs
+view-read-requires : tie.Need-view-read-requires
+view-read-requires c κs = search needs
 
 input-state-requires : tie.Need-input-state-requires
 input-state-requires c κs = search needs
 
 returns : tie.Need-returns
-returns c = rw (c .input-state .ensures, c .before .«record» .ensures, c .before .before .view-read-refusal .ensures)
+returns c = rw (c .input-state .ensures, c .before .view-read .ensures, c .before .before .view-read-refusal .ensures)
 
 pub view-input-state-spec : {M : Type 1} → statement M
 view-input-state-spec =
-    tie.close (tie.spec view-read-refusal-requires record-requires input-state-requires returns)
+    tie.close (tie.spec view-read-refusal-requires view-read-requires input-state-requires returns)

@@ -61,26 +61,20 @@ read-requires-6 c κs = search needs
 enum-told : tie.Need-enum-told
 enum-told c = search needs
 
-read-requires-7 : tie.Need-read-requires-7
-read-requires-7 c κs = search needs
+read-traces-requires : tie.Need-read-traces-requires
+read-traces-requires c κs = search needs
 
 enum-told-2 : tie.Need-enum-told-2
 enum-told-2 c = search needs
 
-count-requires : tie.Need-count-requires
-count-requires c κs = search needs
-
-read-requires-8 : tie.Need-read-requires-8
-read-requires-8 c κs = search needs
+read-counts-requires : tie.Need-read-counts-requires
+read-counts-requires c κs = search needs
 
 enum-told-3 : tie.Need-enum-told-3
 enum-told-3 c = search needs
 
-active-binding-count-requires : tie.Need-active-binding-count-requires
-active-binding-count-requires c κs = search needs
-
-read-requires-9 : tie.Need-read-requires-9
-read-requires-9 c κs = search needs
+read-open-presses-requires : tie.Need-read-open-presses-requires
+read-open-presses-requires c κs = search needs
 
 enum-known-call-7 : tie.Need-enum-known-call-7
 enum-known-call-7 c = search needs
@@ -127,17 +121,17 @@ returns-6 c =
 returns-7 : tie.Need-returns-7
 unfolding readStep
 returns-7 c =
-    rw (c .before .enum-told .given .1, c .read7 .ensures)
+    rw (c .before .enum-told .given .1, c .read-traces .ensures)
 
 returns-8 : tie.Need-returns-8
 unfolding readStep
 returns-8 c =
-    rw (c .before .before .enum-told2 .given .1, c .read8 .ensures, c .before .count .ensures)
+    rw (c .before .enum-told2 .given .1, c .read-counts .ensures)
 
 returns-9 : tie.Need-returns-9
 unfolding readStep
 returns-9 c =
-    rw (c .before .before .enum-told3 .given .1, c .read9 .ensures, c .before .active-binding-count .ensures)
+    rw (c .before .enum-told3 .given .1, c .read-open-presses .ensures)
 
 returns-10 : tie.Need-returns-10
 unfolding readStep
@@ -172,13 +166,11 @@ read-step-spec =
     view-layers-requires
     read-requires-6
     enum-told
-    read-requires-7
+    read-traces-requires
     enum-told-2
-    count-requires
-    read-requires-8
+    read-counts-requires
     enum-told-3
-    active-binding-count-requires
-    read-requires-9
+    read-open-presses-requires
     enum-known-call-7
     read-hits-requires
     enum-known-call-8
