@@ -33,6 +33,7 @@ use Rattle.composition_soundness.proofs.PartLaws.{Parts, parts}
 use Rattle.input_events.proofs.ClaimLaws as events
 use Rattle.registry_book.proofs.HeldLaws.{apart}
 use Rattle.registry_book.proofs.ViewLaws.{record-own}
+use Rattle.counter_table.proofs.RouteLaws.{pressure-routed, tilt-routed, selection-routed}
 use Rattle.counter_table.specs.Table.{before, after, CounterTable}
 
 -- a live view is none that is not
@@ -79,7 +80,9 @@ table =
       least-scale = (g .in-range, g .past-range);
       cancelling-matrix = λ tx ty. (g .accepted tx ty, g .always-skipped tx ty);
       pressure-and-tilt = λ p c. (events.claims .pressure p c, events.claims .tilt p c);
+      pressure-routed = λ r t e p x is contact. (pressure-routed r t e x p is contact, tilt-routed r t e x p is contact);
       selection = events.claims .selection;
+      selection-routed = λ r t e c x is long. selection-routed r t e x c is long;
       observe-panel = λ r h o. (shortcuts.claims .observe-many r h o, shortcuts.claims .observe-one r h o, shortcuts.claims .observe-none r h o);
       unknown-view = unknown-view;
       captures-apart = λ r a b p u y other nine has-a has-b. closes-apart r (parts r u) a y b p other has-a has-b;
