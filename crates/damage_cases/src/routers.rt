@@ -39,7 +39,7 @@ fn key_up() -> PlatformInputEvent {
     let header = PlatformInputHeader {
         sequence: 1,
         timestamp_micros: 1,
-        metrics_revision: 0,
+        metrics_revision: 1,
         window: crate::first(0),
         view: crate::first(0),
         device: device(9),
