@@ -1,6 +1,8 @@
-// Hands in registries that are damaged in each way of document 01's list, and odd ones that are not on it, and writes each answer.
+// Hands in registries and routers that are damaged in each way of document 01's list, and odd ones that are not on it, and writes each
+// answer.
 mod arenas;
 mod odd;
+mod routers;
 mod views;
 
 use composition_state::registry::CompositionLimits;
@@ -24,7 +26,7 @@ pub fn report(name: &[u8], outcome: Outcome) {
 }
 
 // Writes the first `len` bytes of a line.
-fn write_front(line: &[u8], len: usize) {
+pub fn write_front(line: &[u8], len: usize) {
     if len <= line.len() {
         io::write_all(STDOUT_FILENO, &line[..len]);
     }
@@ -111,4 +113,5 @@ fn main() {
     arenas::ask_all(registry);
     views::ask_all(registry);
     odd::ask_all(registry);
+    routers::ask_all(registry);
 }

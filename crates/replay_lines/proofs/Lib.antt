@@ -1,0 +1,4 @@
+pub mod LineLaws
+pub mod FoldLaws
+pub mod TurnLaws
+pub mod LoopLaws

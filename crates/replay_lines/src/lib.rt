@@ -1,0 +1,85 @@
+// The lines of a script's input, which arrives in chunks: each call of `next_answer` takes bytes up to the next line feed or
+// the chunk's end and, where a line ends, answers it into a lent buffer. What is written and read is left to the caller.
+use line_input::is_line_skipped;
+use line_input::parse_line;
+use line_input::take_line;
+use replay_session::answered::answer_line;
+use replay_session::session::Answered;
+use replay_session::session::Session;
+use replay_session::starts::first_counter;
+ghost use Prim.Native.Nat.{ℕ};
+ghost use mathlib.Core.List.{List};
+ghost use mathlib.Core.Path.{_≡_};
+ghost use lib.ListN.{take};
+ghost use Rattle.replay_session.specs.declared.session.Answered.{Answered};
+ghost use Rattle.line_input.specs.LineInput.{nextPlace};
+ghost use Rattle.replay_lines.specs.Replay.{firstSession, lineAnswered};
+ghost use Rattle.replay_lines.specs.Turns.{servingOf, IsTurn};
+ghost use Rattle.replay_lines.specs.Claims.{ReplayClaims};
+
+// After a turn: the session, how many bytes of the next line are there, where the chunk goes on, and how many bytes of an
+// answer stand at the front of the buffer.
+pub struct Turn {
+    pub session: Session,
+    pub len: usize,
+    pub next: usize,
+    pub at: usize,
+}
+
+// Nothing is answered yet, and no digests are shown.
+pub fn first_session() -> Session
+    ensures { λ r. ⌜ r ≡ firstSession ⌝ }
+{
+    let counter = first_counter();
+    Session {
+        calls: 0,
+        are_digests_shown: false,
+        counter,
+    }
+}
+
+// Answers the line of which `len` bytes stand in the buffer, if it asks for an answer.
+pub fn answer_bytes(session: Session, line: &[u8], len: usize, out: &mut [u8]) -> Answered
+    ensures { λ r. ⌜ _≡_ {A = List ℕ × Answered} (now (out .exit), r) (lineAnswered session (take len (now (line .entry))) (now (out .entry))) ⌝ }
+{
+    if is_line_skipped(line, len) {
+        return Answered { session, at: 0 };
+    }
+    answer_line(out, session, parse_line(line, len))
+}
+
+// Takes bytes of a chunk from a place on, and answers the line that they complete, if they complete one.
+pub fn next_answer(
+    session: Session,
+    len: usize,
+    line: &mut [u8],
+    chunk: &[u8],
+    from: usize,
+    out: &mut [u8],
+) -> Turn
+    ensures { λ r. ⌜ IsTurn (servingOf session (now (line .entry)) len (now (out .entry))) (servingOf (r .session) (now (line .exit)) (r .len) (now (out .exit))) (take (r .at) (now (out .exit))) (now (chunk .entry)) from ⌝ }
+    ensures { λ r. ⌜ r .next ≡ nextPlace (now (chunk .entry)) from ⌝ }
+{
+    let taken = take_line(line, len, chunk, from);
+    if taken.complete {
+        let answered = answer_bytes(session, line, taken.len, out);
+        let after = answered.session;
+        return Turn {
+            session: after,
+            len: 0,
+            next: taken.next,
+            at: answered.at,
+        };
+    }
+    Turn {
+        session,
+        len: taken.len,
+        next: taken.next,
+        at: 0,
+    }
+}
+
+// The turns over an input are the fold over its lines, however it is cut into chunks.
+pub fn replay_claims()
+    ensures { λ _. ⌜ ReplayClaims ⌝ }
+{}
