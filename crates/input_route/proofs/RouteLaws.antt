@@ -29,7 +29,7 @@ module _ (r : CompositionRegistry) (t : PlatformInputRouter) (e : PlatformInputE
   checked = refusalWith (isSound r) (r .views) t e
 
   same-checks : checked ≡ routeRefusal r t e
-  unfolding routeRefusal refusalWith
+  unfolding routeRefusal
   same-checks = refl
 
   -- the decision on the event, once it is recorded

@@ -43,18 +43,13 @@ refusalOfOrder order.PortLimit = Refused error.PortLimit
 abbrev pub orderRefusal : PlatformInputRouter → PlatformInputHeader → RouterOutcome
 orderRefusal t h = refusalOfOrder (orderOf t (h .device) (h .sequence) (h .«timestamp_micros»))
 
--- the first refusal of an event, in document 01's order
-unfoldable pub routeRefusal : CompositionRegistry → PlatformInputRouter → PlatformInputEvent → RouterOutcome
-routeRefusal r t e =
-    thenRouterRefusal (damagedRefusal r t)
-    (thenRouterRefusal (eventRefusal (r .views) e)
-    (thenRouterRefusal (roomRefusal t e)
-    (orderRefusal t (e .header))))
-
--- the same, from what the damage test of the registry says
-unfoldable pub refusalWith : Bool → ViewTable → PlatformInputRouter → PlatformInputEvent → RouterOutcome
+-- the first refusal of an event, in document 01's order, from what the damage test of the registry says
+abbrev pub refusalWith : Bool → ViewTable → PlatformInputRouter → PlatformInputEvent → RouterOutcome
 refusalWith sound views t e =
     thenRouterRefusal (routerRefusalIf (not (sound && isRouterSound t)) error.Damaged)
     (thenRouterRefusal (eventRefusal views e)
     (thenRouterRefusal (roomRefusal t e)
     (orderRefusal t (e .header))))
+
+unfoldable pub routeRefusal : CompositionRegistry → PlatformInputRouter → PlatformInputEvent → RouterOutcome
+routeRefusal r t e = refusalWith (isSound r) (r .views) t e

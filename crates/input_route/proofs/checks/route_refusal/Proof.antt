@@ -1,5 +1,4 @@
 -- `route_refusal` meets its contract: the refusals one after the other.
-use Rattle.input_route.specs.Checks.{refusalWith}
 use borrow.Author.Needs.{needs}
 use Rattle.input_route.proofs.checks.route_refusal.Statement.{statement}
 use Rattle.input_route.proofs.checks.route_refusal.Tie as tie
@@ -32,7 +31,6 @@ then-requires-3 : tie.Need-then-requires-3
 then-requires-3 c κs = search needs
 
 returns : tie.Need-returns
-unfolding refusalWith
 returns c = rw (c .then3 .ensures, c .before .then2 .ensures, c .before .before .then .ensures, c .before .before .before .event-refusal .ensures, c .before .before .before .before .order-refusal .ensures, c .before .before .before .before .before .room-refusal .ensures, c .before .before .before .before .before .before .refuse-if .ensures, c .before .before .before .before .before .before .before .both .ensures, c .before .before .before .before .before .before .before .before .is-sound .ensures)
 
 pub route-refusal-spec : {M : Type 1} → statement M
