@@ -1,6 +1,7 @@
 // The hit test of a view's layers.
 ghost use mathlib.Core.Path.{_≡_};
 ghost use Prim.Native.Nat.{_≤_};
+ghost use denote.Ref.{ptr};
 ghost use lib.ListN.{length};
 ghost use Rattle.lists.specs.Tables.{entriesOf};
 ghost use Rattle.records.specs.Errors.{numberOf};
@@ -100,7 +101,9 @@ pub fn hit_test_into(
     }
 }
 
-// The filled front part of the buffer, with the refusal's number beside it. The registry is only read.
+// The filled front part of the buffer, from its first place on, with the refusal's number beside it. The registry is
+// only read. The buffer is spent in the result, so no clause here can name what stands behind the front part;
+// `hit_test_into` says it.
 pub fn hit_test_stack<'a>(
     registry: CompositionRegistry,
     view: GenerationalHandle,
@@ -110,6 +113,7 @@ pub fn hit_test_stack<'a>(
 ) -> &'a mut [u64]
     ensures number { λ r. ⌜ now (refusal .exit) ≡ numberOf (hitTestRefusal registry view (length (now (buffer .entry)))) ⌝ }
     ensures front { λ r. ⌜ now r ≡ hitNumbers registry view point (length (now (buffer .entry))) ⌝ }
+    ensures start { λ r. ⌜ ptr r ≡ ptr (buffer .entry) ⌝ }
 {
     let tested = hit_test_into(registry, view, point, buffer);
     let outcome = tested.outcome;

@@ -53,10 +53,11 @@ panel policy = record {
   geometry = defaultGeometry;
 }
 
--- the first panel and the second, if there is one
+-- the first panel
 abbrev pub panelA : GenerationalHandle
 panelA = handleAt 0 1
 
+-- the second panel, where there is one
 abbrev pub panelB : GenerationalHandle
 panelB = handleAt 1 1
 
@@ -64,10 +65,11 @@ panelB = handleAt 1 1
 abbrev pub watched : CompositionRegistry
 watched = attachSurface opened (panel Observe) .registry
 
--- lists of 65 registrations, which is more than a list holds, and of one
+-- a list of 65 registrations, which is more than its places
 abbrev pub sixtyFive : Registrations
 sixtyFive = record { items = replicate 64 (registrations .blank); len = 65 }
 
+-- a list of one registration
 abbrev pub oneListed : Registrations
 oneListed = packed registrations (registrations .blank ∷ [])
 
@@ -75,10 +77,11 @@ oneListed = packed registrations (registrations .blank ∷ [])
 abbrev pub contactNine : CompositionPointerId
 contactNine = pointerAt 7 1 9
 
--- two panels, A and B; A holds contact 9 and B holds PRIMARY
+-- two panels of that view, A and B
 abbrev pub paired : CompositionRegistry
 paired = attachSurface (attachSurface opened (panel Interactive) .registry) (panel Interactive) .registry
 
+-- A holds contact 9 and B holds PRIMARY
 abbrev pub held : CompositionRegistry
 held = capturePointerFor (capturePointerFor paired contactNine panelA 9 .registry) primary panelB 10 .registry
 
@@ -87,9 +90,11 @@ abbrev pub unknownView : GenerationalHandle
 unknownView = handleAt 3 1
 
 -- ---- the first event of a device, in the view of those panels
+-- a router just started, with room for two presses
 abbrev pub newRouter : PlatformInputRouter
 newRouter = router.started 2 .router
 
+-- an event of device 7.1 with a good header
 abbrev pub event : PlatformInputPayload → PlatformInputEvent
 event x = record {
   header = record {

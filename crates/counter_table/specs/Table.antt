@@ -41,13 +41,15 @@ use Rattle.input_router.specs.declared.router.PlatformInputRouter.{PlatformInpu
 use Rattle.counter_table.specs.Routes.{routeNumber, Arrives, Fits, PressureRouted, TiltRouted, SelectionRouted}
 use Rattle.counter_table.specs.Examples.{panelA, panelB, watched, sixtyFive, oneListed, contactNine, held, unknownView, newRouter, pressed, selected}
 
--- the record of a panel's own view, before and after the panel's close
+-- the record of a panel's own view before the panel's close
 abbrev pub before : CompositionRegistry → GenerationalHandle → ViewRecord
 before r a = viewAt (r .views) (ownView r a)
 
+-- the same after the close
 abbrev pub after : CompositionRegistry → GenerationalHandle → ViewRecord
 after r a = viewAt (closeSurface r a .registry .views) (ownView r a)
 
+-- Document 01, Counter table: each line in its own words, then as a statement
 pub record CounterTable : Type 0 where
   -- "A rectangle from -500 that is 1,000 wide holds -500 and 499, not -501 or 500."
   pub rectangle : (contains fromMinus500 (negℤ (pos 500)) (pos 0) ≡ true)

@@ -7,6 +7,7 @@ use Rattle.composition_close.specs.Shutdown.{shutdownRefusal, shutdownOf}
 use Rattle.composition_soundness.specs.Claims.{Whole, Undamaged}
 use Rattle.shutdown_steps.specs.Steps.{shutdownSteps, shutdownBySteps}
 
+-- Document 01, Shutdown: 21 and 22 come before any change, after 42, and nothing after them can stop it
 pub record ShutdownClaims : Type 0 where
   -- after 42, 21 and 22 no step is refused
   pub no-refusal : (r : CompositionRegistry) → Undamaged r → shutdownRefusal r ≡ Accepted

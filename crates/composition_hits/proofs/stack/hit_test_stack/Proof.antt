@@ -1,5 +1,5 @@
--- `hit_test_stack` meets its contract: the front part of the whole buffer is the numbers of the hits.
-use mathlib.Core.Path.{_∙_}
+-- `hit_test_stack` meets its contract: the front part of the whole buffer, which begins where it begins, is the numbers of the hits.
+use mathlib.Core.Path.{refl, _∙_}
 use borrow.Author.Needs.{needs}
 use Rattle.composition_hits.proofs.TestLaws.{front, front-count, front-refusal}
 use Rattle.composition_hits.proofs.stack.hit_test_stack.Statement.{statement}
@@ -16,7 +16,7 @@ slice-aggregate-result c = let e = c .before .before .before .before .hit-test-i
 
 returns : tie.Need-returns
 returns c = let e = c .before .before .before .before .hit-test-into .ensures in
-    (c .before .number .ensures ∙ rw (front-refusal _ _ _ _ _ _ (e .0) (e .1)), front _ _ _ _ _ _ (e .0) (e .1))
+    (c .before .number .ensures ∙ rw (front-refusal _ _ _ _ _ _ (e .0) (e .1)), (front _ _ _ _ _ _ (e .0) (e .1), refl))
 
 pub hit-test-stack-spec : {M : Type 1} → statement M
 hit-test-stack-spec =
