@@ -1,12 +1,13 @@
 // Runs a script from standard input and writes one answer line for each call.
 use libc::STDIN_FILENO;
 use libc::STDOUT_FILENO;
-use line_input::is_line_skipped;
-use line_input::parse_line;
-use line_input::take_line;
-use replay_session::answered::answer_line;
+use replay_lines::answer_bytes;
+use replay_lines::first_session;
+use replay_lines::next_answer;
 use replay_session::session::Session;
-use replay_session::starts::first_counter;
+ghost use mathlib.Core.List.{[]};
+ghost use mathlib.Core.Path.{_≡_};
+ghost use Rattle.replay_lines.specs.Turns.{Held, servingOf, heldOf, heldIn, chunkServed};
 
 // The session, and how many bytes of the next line have come.
 struct Reading {
@@ -22,34 +23,26 @@ struct Served {
 
 // Writes the first `len` bytes of an answer.
 fn write_front(out: &[u8], len: usize) {
-    if len <= out.len() {
-        io::write_all(STDOUT_FILENO, &out[..len]);
+    if 0 < len {
+        if len <= out.len() {
+            io::write_all(STDOUT_FILENO, &out[..len]);
+        }
     }
 }
 
-// Answers the line of which `len` bytes stand in the buffer, if it asks for an answer.
-fn answer(session: Session, line: &[u8], len: usize, out: &mut [u8]) -> Session {
-    if is_line_skipped(line, len) {
-        return session;
-    }
-    let answered = answer_line(out, session, parse_line(line, len));
-    write_front(out, answered.at);
-    answered.session
-}
-
-// Answers each line that a chunk completes.
-fn answer_chunk(reading: Reading, chunk: &[u8], line: &mut [u8], out: &mut [u8]) -> Reading {
+// Answers each line that a chunk completes: the loop itself does nothing but write.
+fn answer_chunk(reading: Reading, chunk: &[u8], line: &mut [u8], out: &mut [u8]) -> Reading
+    ensures { λ r. ⌜ _≡_ {A = Held} (heldOf (r .session) (now (line .exit)) (r .len) (now (out .exit))) (heldIn (chunkServed (servingOf (reading .session) (now (line .entry)) (reading .len) (now (out .entry)) []) (now (chunk .entry)))) ⌝ }
+{
     let mut session = reading.session;
     let mut len = reading.len;
     let mut at = 0;
     while at < chunk.len() {
-        let taken = take_line(line, len, chunk, at);
-        at = taken.next;
-        len = taken.len;
-        if taken.complete {
-            session = answer(session, line, len, out);
-            len = 0;
-        }
+        let turn = next_answer(session, len, line, chunk, at, out);
+        write_front(out, turn.at);
+        session = turn.session;
+        len = turn.len;
+        at = turn.next;
     }
     Reading { session, len }
 }
@@ -72,14 +65,9 @@ fn serve_some(reading: Reading, line: &mut [u8], out: &mut [u8]) -> Served {
     }
 }
 
-// Nothing is answered yet, and no digests are shown.
+// Nothing is read yet.
 fn first_reading() -> Reading {
-    let counter = first_counter();
-    let session = Session {
-        calls: 0,
-        are_digests_shown: false,
-        counter,
-    };
+    let session = first_session();
     Reading { session, len: 0 }
 }
 
@@ -95,11 +83,8 @@ fn serve(line: &mut [u8], out: &mut [u8]) {
         is_open = served.is_open;
         turns -= 1;
     }
-    let len = reading.len;
-    let session = reading.session;
-    if len > 0 {
-        answer(session, line, len, out);
-    }
+    let last = answer_bytes(reading.session, line, reading.len, out);
+    write_front(out, last.at);
 }
 
 // The longest answer is a whole state: some 9,200 numbers of at most 21 bytes.

@@ -57,13 +57,13 @@ lines-are r p [] = refl
 lines-are r p (b ∷ l) =
     by-test (eqb b 10)
     (λ t.
-        ap (λ (q : Replay × List ℕ). lastEnded (foldl byteTaken q l)) (byte-feed r p l b t)
-        ∙ lines-are (lineReplayed r p) [] l
-        ∙ ap (foldl lineReplayed r) (sym (lines-feed r p l b t)))
+    ap (λ (q : Replay × List ℕ). lastEnded (foldl byteTaken q l)) (byte-feed r p l b t)
+    ∙ lines-are (lineReplayed r p) [] l
+    ∙ ap (foldl lineReplayed r) (sym (lines-feed r p l b t)))
     (λ t.
-        ap (λ (q : Replay × List ℕ). lastEnded (foldl byteTaken q l)) (byte-other r p l b t)
-        ∙ lines-are r (p ++ (b ∷ [])) l
-        ∙ ap (foldl lineReplayed r) (sym (lines-other r p l b t)))
+    ap (λ (q : Replay × List ℕ). lastEnded (foldl byteTaken q l)) (byte-other r p l b t)
+    ∙ lines-are r (p ++ (b ∷ [])) l
+    ∙ ap (foldl lineReplayed r) (sym (lines-other r p l b t)))
 
 -- ---- a chunk up to its next line feed
 up-to-taken : (r : Replay) (p l : List ℕ) → foldl byteTaken (r, p) (upTo 10 l) ≡ (r, p ++ upTo 10 l)
@@ -71,13 +71,13 @@ up-to-taken r p [] = ap (λ (q : List ℕ). (r, q)) (sym (append-nil p))
 up-to-taken r p (b ∷ l) =
     by-test (eqb b 10)
     (λ t.
-        ap (foldl byteTaken (r, p)) (up-feed l b t)
-        ∙ ap (λ (q : List ℕ). (r, q)) (sym (append-nil p) ∙ ap (λ (k : List ℕ). p ++ k) (sym (up-feed l b t))))
+    ap (foldl byteTaken (r, p)) (up-feed l b t)
+    ∙ ap (λ (q : List ℕ). (r, q)) (sym (append-nil p) ∙ ap (λ (k : List ℕ). p ++ k) (sym (up-feed l b t))))
     (λ t.
-        ap (foldl byteTaken (r, p)) (up-other l b t)
-        ∙ ap (λ (q : Replay × List ℕ). foldl byteTaken q (upTo 10 l)) (byte-other r p l b t)
-        ∙ up-to-taken r (p ++ (b ∷ [])) l
-        ∙ ap (λ (q : List ℕ). (r, q)) (append-assoc p (b ∷ []) (upTo 10 l) ∙ ap (λ (k : List ℕ). p ++ k) (sym (up-other l b t))))
+    ap (foldl byteTaken (r, p)) (up-other l b t)
+    ∙ ap (λ (q : Replay × List ℕ). foldl byteTaken q (upTo 10 l)) (byte-other r p l b t)
+    ∙ up-to-taken r (p ++ (b ∷ [])) l
+    ∙ ap (λ (q : List ℕ). (r, q)) (append-assoc p (b ∷ []) (upTo 10 l) ∙ ap (λ (k : List ℕ). p ++ k) (sym (up-other l b t))))
 
 up-to-split : (l : List ℕ) → length (upTo 10 l) < length l → l ≡ upTo 10 l ++ (10 ∷ drop (suc (length (upTo 10 l))) l)
 up-to-split [] h = absurd (none h)

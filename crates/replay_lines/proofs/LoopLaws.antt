@@ -34,7 +34,7 @@ enough (suc n) (suc m) v chunk at f g = both n m v chunk at f g (enough n m (tur
   where
     both : (n m : ℕ) (v : Serving) (chunk : List ℕ) (at : ℕ) → length chunk ≤ at + suc n → length chunk ≤ at + suc m
         → (length chunk ≤ nextPlace chunk at + n → length chunk ≤ nextPlace chunk at + m
-            → turns n (turned v chunk at) chunk (nextPlace chunk at) ≡ turns m (turned v chunk at) chunk (nextPlace chunk at))
+        → turns n (turned v chunk at) chunk (nextPlace chunk at) ≡ turns m (turned v chunk at) chunk (nextPlace chunk at))
         → turns (suc n) v chunk at ≡ turns (suc m) v chunk at
     both n m v chunk at f g ih =
         by-test (ltb at (length chunk))

@@ -1,12 +1,14 @@
--- `answer_chunk` is safe and ends: each turn goes further in the chunk.
+-- `answer_chunk` meets its contract: after each turn the turns that are left lead where those of the whole chunk lead.
 use Prim.Native.Nat.{ℕ, _-_, _<_}
-use mathlib.Core.List.{List}
+use mathlib.Core.List.{List, []}
 use mathlib.Core.Path.{_≡_, refl}
 use native.Mathlib.Omega.{arith}
 use lib.ListN.{length}
 use borrow.Author.Needs.{needs}
 use Rattle.line_input.specs.LineInput.{nextPlace}
 use Rattle.line_input.proofs.InputLaws.{advances}
+use Rattle.replay_lines.specs.Turns.{servingOf}
+use Rattle.replay_lines.proofs.LoopLaws.{Leads, leads-start, leads-turn, leads-done}
 use Rattle.replay.proofs.answer_chunk.Statement.{statement}
 use Rattle.replay.proofs.answer_chunk.Tie as tie
 
@@ -15,31 +17,28 @@ less-left : (chunk : List ℕ) (at next : ℕ) → at < length chunk → next �
 less-left chunk at next h e = omega (arith, advances chunk at h)
 
 abbrev Inv-loop : tie.InvT-loop
-Inv-loop chunk line₀ out₀ session₀ len₀ at₀ line out session len at = (length line ≡ length line₀) × (length out ≡ length out₀)
+Inv-loop chunk line₀ out₀ session₀ len₀ at₀ line out session len at =
+    (length line ≡ length line₀) × ((length out ≡ length out₀) × Leads (servingOf session₀ line₀ len₀ out₀ []) chunk session line len out at)
 
 abbrev μ-loop : tie.MeasureT-loop
 μ-loop chunk line₀ out₀ session₀ len₀ at₀ line out session len at = length chunk - at
 
 loop-holds : tie.Need-loop-holds Inv-loop μ-loop
-loop-holds c = (refl, refl)
+loop-holds c = (refl, (refl, leads-start _ _ _ _ _))
 
-take-line-requires : tie.Need-take-line-requires Inv-loop μ-loop
-take-line-requires c κs = search needs
+next-answer-requires : tie.Need-next-answer-requires Inv-loop μ-loop
+next-answer-requires c κs = search needs
 
-answer-requires : tie.Need-answer-requires Inv-loop μ-loop
-answer-requires c κs = search needs
+write-front-requires : tie.Need-write-front-requires Inv-loop μ-loop
+write-front-requires c κs = search needs
 
 loop-less : tie.Need-loop-less Inv-loop μ-loop
-loop-less c = less-left _ _ _ (c .before .before .before .before .before .before .before .before .before .before .loop-test .taken) (c .before .before .before .before .before .before .before .before .take-line .ensures .1 .0)
+loop-less c = less-left _ _ _ (c .before .before .before .before .before .before .before .before .before .before .loop-test .taken) (c .before .before .before .before .before .before .before .next-answer .ensures .1)
 
 loop-again : tie.Need-loop-again Inv-loop μ-loop
-loop-again c = search needs
-
-loop-less-2 : tie.Need-loop-less-2 Inv-loop μ-loop
-loop-less-2 c = less-left _ _ _ (c .before .before .before .before .before .loop-test .taken) (c .before .before .before .take-line .ensures .1 .0)
-
-loop-again-2 : tie.Need-loop-again-2 Inv-loop μ-loop
-loop-again-2 c = search needs
+loop-again c =
+    let turn = c .before .before .before .before .before .before .before .next-answer .ensures in
+    (search needs, (search needs, leads-turn _ _ _ _ _ _ _ (c .before .before .before .before .before .before .before .before .before .before .before .loop .inv .1 .1) _ _ _ _ _ _ (c .before .before .before .before .before .before .before .before .before .before .loop-test .taken) (turn .0) (turn .1)))
 
 same-length : tie.Need-same-length Inv-loop μ-loop
 same-length c = search needs
@@ -48,7 +47,7 @@ same-length-2 : tie.Need-same-length-2 Inv-loop μ-loop
 same-length-2 c = search needs
 
 returns : tie.Need-returns Inv-loop μ-loop
-returns c = search needs
+returns c = leads-done _ _ _ _ _ _ _ (c .before .loop .inv .1 .1) (c .loop-test .left)
 
 pub answer-chunk-spec : {M : Type 1} → statement M
 answer-chunk-spec =
@@ -57,12 +56,10 @@ answer-chunk-spec =
     Inv-loop
     μ-loop
     loop-holds
-    take-line-requires
-    answer-requires
+    next-answer-requires
+    write-front-requires
     loop-less
     loop-again
-    loop-less-2
-    loop-again-2
     same-length
     same-length-2
     returns)

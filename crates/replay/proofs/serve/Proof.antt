@@ -29,8 +29,11 @@ loop-less c = search needs
 loop-again : tie.Need-loop-again Inv-loop μ-loop
 loop-again c = search needs
 
-answer-requires : tie.Need-answer-requires Inv-loop μ-loop
-answer-requires c κs = search needs
+answer-bytes-requires : tie.Need-answer-bytes-requires Inv-loop μ-loop
+answer-bytes-requires c κs = search needs
+
+write-front-requires : tie.Need-write-front-requires Inv-loop μ-loop
+write-front-requires c κs = search needs
 
 same-length : tie.Need-same-length Inv-loop μ-loop
 same-length c = search needs
@@ -40,15 +43,6 @@ same-length-2 c = search needs
 
 returns : tie.Need-returns Inv-loop μ-loop
 returns c = search needs
-
-same-length-3 : tie.Need-same-length-3 Inv-loop μ-loop
-same-length-3 c = search needs
-
-same-length-4 : tie.Need-same-length-4 Inv-loop μ-loop
-same-length-4 c = search needs
-
-returns-2 : tie.Need-returns-2 Inv-loop μ-loop
-returns-2 c = search needs
 
 pub serve-spec : {M : Type 1} → statement M
 serve-spec =
@@ -62,10 +56,8 @@ serve-spec =
     sub-turns
     loop-less
     loop-again
-    answer-requires
+    answer-bytes-requires
+    write-front-requires
     same-length
     same-length-2
-    returns
-    same-length-3
-    same-length-4
-    returns-2)
+    returns)

@@ -6,7 +6,7 @@ use Rattle.replay.proofs.write_front.Statement.{statement}
 use Rattle.replay.proofs.write_front.Tie as tie
 
 slice-aggregate-write-all : tie.Need-slice-aggregate-write-all
-slice-aggregate-write-all c = sym (length-take-le _ (c .before .before .before .args .out .now) (c .before .if1 .taken))
+slice-aggregate-write-all c = sym (length-take-le _ _ (c .before .if2 .taken))
 
 write-all-requires : tie.Need-write-all-requires
 write-all-requires c κs = search needs
@@ -17,6 +17,9 @@ returns c = search needs
 returns-2 : tie.Need-returns-2
 returns-2 c = search needs
 
+returns-3 : tie.Need-returns-3
+returns-3 c = search needs
+
 pub write-front-spec : {M : Type 1} → statement M
 write-front-spec =
-    tie.close (tie.spec slice-aggregate-write-all write-all-requires returns returns-2)
+    tie.close (tie.spec slice-aggregate-write-all write-all-requires returns returns-2 returns-3)

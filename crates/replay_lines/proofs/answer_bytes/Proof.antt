@@ -4,33 +4,22 @@ use borrow.Author.Needs.{needs}
 use Rattle.replay_lines.proofs.TurnLaws.{answered-skipped, answered-asked}
 use Rattle.replay_lines.proofs.answer_bytes.Statement.{statement}
 use Rattle.replay_lines.proofs.answer_bytes.Tie as tie
-use Rattle.replay_lines.proofs.answer_bytes.Reads as reads
-use Rattle.replay_lines.proofs.answer_bytes.Lts as lts
-use Rattle.line_input.proofs.is_line_skipped.Reads as is-line-skipped-reads
-use Rattle.line_input.proofs.parse_line.Reads as parse-line-reads
-use Rattle.replay_session.proofs.answered.answer_line.Reads as answer-line-reads
 
--- src/lib.rt:45:8
 is-line-skipped-requires : tie.Need-is-line-skipped-requires
 is-line-skipped-requires c κs = search needs
 
--- src/lib.rt:46:9
 returns : tie.Need-returns
 returns c = answered-skipped _ _ _ (sym (c .before .is-line-skipped .ensures) ∙ c .if1 .taken)
 
--- src/lib.rt:48:31
 parse-line-requires : tie.Need-parse-line-requires
 parse-line-requires c κs = search needs
 
--- src/lib.rt:48:5
 answer-line-requires : tie.Need-answer-line-requires
 answer-line-requires c κs = search needs
 
--- src/lib.rt:42:1
 same-length : tie.Need-same-length
 same-length c = search needs
 
--- src/lib.rt:42:1
 returns-2 : tie.Need-returns-2
 returns-2 c =
     rw (c .before .before .before .parse-line .ensures) at (c .before .before .answer-line .ensures)

@@ -4,42 +4,32 @@ use borrow.Author.Needs.{needs}
 use Rattle.replay_lines.proofs.TurnLaws.{turn-answered, turn-on}
 use Rattle.replay_lines.proofs.next_answer.Statement.{statement}
 use Rattle.replay_lines.proofs.next_answer.Tie as tie
-use Rattle.replay_lines.proofs.next_answer.Reads as reads
-use Rattle.replay_lines.proofs.next_answer.Lts as lts
-use Rattle.line_input.proofs.take_line.Reads as take-line-reads
-use Rattle.replay_lines.proofs.answer_bytes.Reads as answer-bytes-reads
 
--- src/lib.rt:63:9
 take-line-requires : tie.Need-take-line-requires
 take-line-requires c κs = search needs
 
--- src/lib.rt:65:13
 answer-bytes-requires : tie.Need-answer-bytes-requires
 answer-bytes-requires c κs = search needs
 
--- src/lib.rt:67:9
 same-length : tie.Need-same-length
 same-length c = search needs
 
--- src/lib.rt:67:9
 same-length-2 : tie.Need-same-length-2
 same-length-2 c = search needs
 
--- src/lib.rt:67:9
 returns : tie.Need-returns
 returns c =
     let a = c .before .before .before .before .before .before .before .before .before .before .before .before .before .before .args in
-    let taken = c .before .before .before .before .before .before .before .before .before .take-line .ensures in
-    (turn-answered (a .session) (a .line .now) (a .len) (a .out .now) (a .chunk .now) (a .from) _ _ (taken .0) _ (c .before .before .before .answer-bytes .result)
-        (sym (c .before .before .before .before .before .before .if1 .taken) ∙ taken .1 .1)
-        (c .before .before .before .answer-bytes .ensures),
-    taken .1 .0)
+    let taken = c .before .before .before .before .before .before .before .before .before .take-line .ensures in (
+      turn-answered (a .session) (a .line .now) (a .len) (a .out .now) (a .chunk .now) (a .from) _ _ (taken .0) _ (c .before .before .before .answer-bytes .result)
+          (sym (c .before .before .before .before .before .before .if1 .taken) ∙ taken .1 .1)
+          (c .before .before .before .answer-bytes .ensures),
+      taken .1 .0,
+    )
 
--- src/lib.rt:52:1
 same-length-3 : tie.Need-same-length-3
 same-length-3 c = search needs
 
--- src/lib.rt:52:1
 returns-2 : tie.Need-returns-2
 returns-2 c =
     let a = c .before .before .before .before .before .before .before .before .args in
