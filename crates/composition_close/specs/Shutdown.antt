@@ -1,6 +1,8 @@
 -- Document 01, Shutdown: 21, 22 (a filled slot of generation 4,294,967,295), both before any change, after 42.
--- After them no close inside can be refused: each layer is a live panel of its view (42), no live slot is at its last generation (22), and the revision has room for every
--- step (21); a view has no layer left and a window no view when its turn comes. So the work is the closing steps alone, each what the accepted call does.
+-- After them no close inside is refused (proved in `shutdown_steps`, where it is the Rust's fold of closes): each layer is
+-- a live panel of its view (42), no live slot is at its last generation (22), and the revision has room for every step
+-- (21); a view has no layer left and a window no view when its turn comes. So the work is the closing steps alone, each
+-- what the accepted call does.
 use Prim.Native.Nat.{ℕ, _+_}
 use mathlib.Core.Bool.{Bool, cond, not, _&&_}
 use mathlib.Core.List.{List, [], _∷_, reverse}

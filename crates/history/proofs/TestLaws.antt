@@ -36,26 +36,15 @@ handle-order = refl
 
 -- ---- presses
 -- a gamepad's key has no third number
-third-same : (a b : Bool) → (a && b) ≡ (a && (b && true))
-third-same true true = refl
-third-same true false = refl
-third-same false b = refl
-
 third-order : (a b : ℕ) → ltb a b ≡ cond (eqb a b) false (ltb a b)
 third-order a b = by-test (eqb a b)
     (λ t. ap (λ (k : ℕ). ltb k b) (number .same-eq a b t) ∙ number .irrefl b ∙ rw t)
     (λ t. rw t)
 
-pub press-same : (j k : BindingKey) → isSamePress j k ≡ keySame (bindingKey j) (bindingKey k)
-press-same (Pointer p) (Pointer q) = refl
-press-same (Pointer p) (Key k) = refl
-press-same (Pointer p) (Gamepad d) = refl
-press-same (Key k) (Pointer p) = refl
-press-same (Key j) (Key k) = refl
-press-same (Key k) (Gamepad d) = refl
-press-same (Gamepad d) (Pointer p) = refl
-press-same (Gamepad d) (Key k) = refl
-press-same (Gamepad d) (Gamepad e) = third-same (eqb (d .value) (e .value)) (eqb (d .generation) (e .generation))
+third-same : (a b : Bool) → (a && b) ≡ (a && (b && true))
+third-same true true = refl
+third-same true false = refl
+third-same false b = refl
 
 pub press-order : (j k : BindingKey) → pressBefore j k ≡ keyLt (bindingKey j) (bindingKey k)
 press-order (Pointer p) (Pointer q) = refl
@@ -68,6 +57,17 @@ press-order (Gamepad d) (Pointer p) = refl
 press-order (Gamepad d) (Key k) = refl
 press-order (Gamepad d) (Gamepad e) =
     ap (λ (b : Bool). cond (eqb (d .value) (e .value)) b (ltb (d .value) (e .value))) (third-order (d .generation) (e .generation))
+
+pub press-same : (j k : BindingKey) → isSamePress j k ≡ keySame (bindingKey j) (bindingKey k)
+press-same (Pointer p) (Pointer q) = refl
+press-same (Pointer p) (Key k) = refl
+press-same (Pointer p) (Gamepad d) = refl
+press-same (Key k) (Pointer p) = refl
+press-same (Key j) (Key k) = refl
+press-same (Key k) (Gamepad d) = refl
+press-same (Gamepad d) (Pointer p) = refl
+press-same (Gamepad d) (Key k) = refl
+press-same (Gamepad d) (Gamepad e) = third-same (eqb (d .value) (e .value)) (eqb (d .generation) (e .generation))
 
 -- so the book's is a strict order
 pub presses : Ordered pressBefore isSamePress
