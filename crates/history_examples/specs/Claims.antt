@@ -21,7 +21,7 @@ use Rattle.book.specs.Owed.{owed}
 use Rattle.book.specs.Examples.{handleAt, finger, keyOn, gamepadOn, grip}
 use Rattle.history.specs.Histories.{Start, fresh, Entry, after, history, bookAfter}
 use Rattle.history.specs.Demand.{Accepts, isRead, closedIn, Premises, NothingLost}
-use Rattle.history_examples.specs.Lists.{startAt, openWindow, openView, attach, capture, event, keyDown, snapshot, focusLost, close, shutdown, release, count}
+use Rattle.history_examples.specs.Lists.{startAt, openWindow, openView, attach, capture, eventAt, event, keyDown, snapshot, focusLost, close, shutdown, release, releaseAll, count}
 
 -- ---- which of the premises a list of entries meets: no shutdown, no 21, no 22, each closed panel released next
 abbrev pub isShutdown : Call → Bool
@@ -181,6 +181,22 @@ pub record PremisesNeeded : Type 0 where
   pub unreleased-answers : numbers (startAt 5 1) unreleasedCalls ≡ 0 ∷ 0 ∷ 0 ∷ 0 ∷ 0 ∷ 0 ∷ 0 ∷ 12 ∷ []
   pub unreleased-fails : NothingLost (startAt 5 1) unreleasedCalls → ⊥
 
+-- ---- what the router alone forgets, read from its answers, and a list that ends at a close
+abbrev pub pressedOnce : List Asked → List Asked
+pressedOnce later = openWindow ∷ openView (handleAt 0 1) ∷ attach 1 0 ∷ event 1 5 keyDown ∷ later
+
+pub record OtherExamples : Type 0 where
+  -- "A disconnect forgets its device's sequence, not the shared time.": not 32 for sequence 1 again, and 33 before time 10
+  pub disconnect-forgets : numbers (startAt 5 1)
+      (pressedOnce (event 1 6 DeviceDisconnected ∷ eventAt 9 1 1 keyDown ∷ event 1 1 keyDown ∷ []))
+      ≡ 0 ∷ 0 ∷ 0 ∷ 0 ∷ 0 ∷ 33 ∷ 0 ∷ []
+  -- "`release_all` .. then forgets sequences and the time": neither 32 for sequence 1 again nor 33 before time 10
+  pub all-forgets : numbers (startAt 5 1) (pressedOnce (releaseAll ∷ eventAt 9 1 1 keyDown ∷ []))
+      ≡ 0 ∷ 0 ∷ 0 ∷ 0 ∷ 0 ∷ 0 ∷ []
+  -- "The list may end at a close."
+  pub close-ends : Premises (entries (startAt 5 1) (pressedOnce (close (handleAt 0 1) ∷ [])))
+
 pub record Demand3Examples : Type 0 where
   pub desk : DeskExample
   pub needed : PremisesNeeded
+  pub others : OtherExamples

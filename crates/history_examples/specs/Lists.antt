@@ -21,7 +21,7 @@ use Rattle.calls.specs.declared.call.CloseCall.the-variants.{CloseSurface, Shut
 use Rattle.calls.specs.declared.call.InputCall.the-variants.{CapturePointerFor}
 use Rattle.calls.specs.declared.call.PanelCall.the-variants.{CreateWindow, CreateView, AttachSurface}
 use Rattle.calls.specs.declared.call.ReadCall.the-variants.{ActiveBindingCount}
-use Rattle.calls.specs.declared.call.RouterCall.the-variants.{Route, ReleaseSurface}
+use Rattle.calls.specs.declared.call.RouterCall.the-variants.{Route, ReleaseSurface, ReleaseAll}
 use Rattle.book.specs.Book.{Asked}
 use Rattle.book.specs.Examples.{handleAt, deviceAt, pointerAt}
 use Rattle.history.specs.Histories.{Start}
@@ -68,12 +68,12 @@ abbrev pub capture : GenerationalHandle → ℕ → Asked
 capture panel revision =
     ask (Input (CapturePointerFor (record { pointer = pointerAt 7 1 9; surface = panel; revision = revision })))
 
--- an event of device 7.1 in window and view 0 with a generation, and its sequence number
-abbrev pub event : ℕ → ℕ → PlatformInputPayload → Asked
-event generation n x = ask (Router (Route (record {
+-- an event of device 7.1 at a time, in window and view 0 with a generation, and its sequence number
+abbrev pub eventAt : ℕ → ℕ → ℕ → PlatformInputPayload → Asked
+eventAt time generation n x = ask (Router (Route (record {
   header = record {
     sequence = n;
-    «timestamp_micros» = 10;
+    «timestamp_micros» = time;
     «metrics_revision» = 1;
     window = handleAt 0 generation;
     view = handleAt 0 generation;
@@ -84,6 +84,9 @@ event generation n x = ask (Router (Route (record {
   };
   payload = x;
 })))
+
+abbrev pub event : ℕ → ℕ → PlatformInputPayload → Asked
+event generation n x = eventAt 10 generation n x
 
 abbrev pub keyDown : PlatformInputPayload
 keyDown = payload.Key (record { phase = Down; «physical_key» = 30; repeat = false })
@@ -102,6 +105,9 @@ shutdown = ask (Close Shutdown)
 
 abbrev pub release : GenerationalHandle → Asked
 release panel = ask (Router (ReleaseSurface panel))
+
+abbrev pub releaseAll : Asked
+releaseAll = ask (Router ReleaseAll)
 
 abbrev pub count : Asked
 count = ask (Read ActiveBindingCount)

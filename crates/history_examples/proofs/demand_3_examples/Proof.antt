@@ -158,6 +158,20 @@ returns c = record {
     unreleased-answers = refl;
     unreleased-fails = λ lost. one-is-two (lost .held unreleasedCalls [] refl);
   };
+  others = record {
+    disconnect-forgets = refl;
+    all-forgets = refl;
+    close-ends = (
+      premises _ _ refl refl refl tt,
+      (
+        premises _ _ refl refl refl tt,
+        (
+          premises _ _ refl refl refl tt,
+          (premises _ _ refl refl refl tt, (premises _ _ refl refl refl tt, tt)),
+        ),
+      ),
+    );
+  };
 }
 
 pub demand-3-examples-spec : {M : Type 1} → statement M
