@@ -4,6 +4,7 @@ use mathlib.Core.Path.{_≡_, _∙_}
 use mathlib.Core.Bool.{false}
 use mathlib.Core.List.{[], _∷_}
 use lib.Dec.{eqb}
+use Rattle.lists.specs.Numbers.{maxU64}
 use Rattle.lists.specs.Tables.{entriesOf}
 use Rattle.lists.proofs.TableLaws.{entries-packed}
 use Rattle.handles.specs.declared.GenerationalHandle.{GenerationalHandle}
@@ -21,7 +22,7 @@ use Rattle.composition_state.specs.Registry.{withRevision}
 use Rattle.records.specs.Layers.{layers}
 use Rattle.records.specs.Traces.{hits as stateHits, deliveries}
 use Rattle.records.specs.Views.{viewAt, viewRefusal}
-use Rattle.composition_state.proofs.SettleLaws.{last, then-last, if-accepted, refused-early, settled-accepted, accepted-is}
+use Rattle.composition_state.proofs.SettleLaws.{then-last, if-accepted, refused-early, settled-accepted, accepted-is}
 use Rattle.composition_arbitration.specs.declared.walk.Walked.{Walked}
 use Rattle.composition_arbitration.specs.Arbitration.{ownHits, hitsRefusal, resolution, alone, orAlone, walkIn, arbitration, nextRevision, arbitrateRefusal, traceOf, withTrace, concluded, arbitrated}
 use Rattle.composition_arbitration.specs.Layers.{verdictAt, walkOf}
@@ -30,9 +31,9 @@ use Rattle.composition_arbitration.specs.Claims.{EndsWith, newTrace, Arb
 use Rattle.composition_arbitration.proofs.ClaimLaws as walk
 
 -- once all checks have passed, the revision is not the last
-pub room : (r : CompositionRegistry) (view : GenerationalHandle) (own : Hits) (shortcut : Outcome) → arbitrateRefusal r view own shortcut ≡ Accepted → eqb (r .revision) last ≡ false
+pub room : (r : CompositionRegistry) (view : GenerationalHandle) (own : Hits) (shortcut : Outcome) → arbitrateRefusal r view own shortcut ≡ Accepted → eqb (r .revision) maxU64 ≡ false
 room r view own shortcut h =
-    if-accepted (eqb (r .revision) last) RevisionExhausted
+    if-accepted (eqb (r .revision) maxU64) RevisionExhausted
     (then-last shortcut _ (then-last (hitsRefusal own) _ (then-last (viewRefusal (r .views) view) _ (then-last (damageRefusal r) _ h))))
 
 -- the registry that an accepted call leaves, before its revision is raised

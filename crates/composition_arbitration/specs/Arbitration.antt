@@ -4,6 +4,7 @@ use mathlib.Core.Bool.{Bool, true, false, cond}
 use mathlib.Core.List.{List, [], _∷_}
 use lib.Dec.{eqb, ltb}
 use Rattle.lists.specs.Tables.{entriesOf, packed}
+use Rattle.lists.specs.Numbers.{maxU64}
 use Rattle.handles.specs.declared.GenerationalHandle.{GenerationalHandle}
 use Rattle.handles.specs.declared.OptionalHandle.{OptionalHandle}
 use Rattle.handles.specs.declared.OptionalHandle.the-variants.{None, Some}
@@ -87,16 +88,22 @@ walkIn r view event h =
 abbrev pub arbitration : CompositionRegistry → GenerationalHandle → ArbitrationEvent → Hits → Walked
 arbitration r view event h = orAlone (resolution r view event .surface) (walkIn r view event (ownHits event h))
 
+-- the revision after this one; at the last revision the call is refused 21, so that case is never met
 abbrev pub nextRevision : ℕ → ℕ
-nextRevision n = cond (eqb n 18446744073709551615) n (n + 1)
+nextRevision n = cond (eqb n maxU64) n (n + 1)
 
-abbrev pub arbitrateRefusal : CompositionRegistry → GenerationalHandle → Hits → Outcome → Outcome
-arbitrateRefusal r view own shortcut =
-    thenRefusal (damageRefusal r)
+-- document 01, Arbitrate: 8/9, 41, 8/9, 21, after what the damage test says
+abbrev pub refusalAfter : Outcome → CompositionRegistry → GenerationalHandle → Hits → Outcome → Outcome
+refusalAfter damage r view own shortcut =
+    thenRefusal damage
     (thenRefusal (viewRefusal (r .views) view)
     (thenRefusal (hitsRefusal own)
     (thenRefusal shortcut
-    (refusalIf (eqb (r .revision) 18446744073709551615) RevisionExhausted))))
+    (refusalIf (eqb (r .revision) maxU64) RevisionExhausted))))
+
+-- the same after the registry's own damage test
+abbrev pub arbitrateRefusal : CompositionRegistry → GenerationalHandle → Hits → Outcome → Outcome
+arbitrateRefusal r view own shortcut = refusalAfter (damageRefusal r) r view own shortcut
 
 -- the trace keeps the event with its hits, the deliveries and the consumer
 abbrev pub traceOf : ℕ → GenerationalHandle → ArbitrationEvent → Hits → Walked → CompositionTrace

@@ -1,28 +1,15 @@
 -- What is decided of an event before anything is written, so that a caller who has tested the registry for damage need not have it tested again.
-use lib.Dec.{eqb}
 use Rattle.handles.specs.declared.GenerationalHandle.{GenerationalHandle}
-use Rattle.records.specs.declared.error.CompositionError.the-variants.{RevisionExhausted}
 use Rattle.records.specs.declared.error.Outcome.{Outcome}
 use Rattle.composition_state.specs.declared.registry.CompositionRegistry.{CompositionRegistry}
 use Rattle.records.specs.declared.trace.ArbitrationEvent.{ArbitrationEvent}
 use Rattle.records.specs.declared.trace.CompositionTrace.{CompositionTrace}
 use Rattle.records.specs.declared.trace.Hits.{Hits}
-use Rattle.records.specs.Errors.{thenRefusal, refusalIf}
 use Rattle.composition_state.specs.Registry.{withTraces, withRevision}
-use Rattle.records.specs.Views.{viewRefusal}
 use Rattle.composition_arbitration.specs.declared.arbitrate.ArbitrationResult.{ArbitrationResult}
 use Rattle.composition_arbitration.specs.declared.arbitrate.Decision.{Decision}
-use Rattle.composition_arbitration.specs.Arbitration.{ownHits, hitsRefusal, resolution, arbitration, nextRevision, traceOf}
+use Rattle.composition_arbitration.specs.Arbitration.{ownHits, refusalAfter, resolution, arbitration, nextRevision, traceOf}
 use Rattle.composition_arbitration.specs.Trace.{traced}
-
--- document 01, Arbitrate: 8/9, 41, 8/9, 21, after what the damage test says
-abbrev pub refusalAfter : Outcome → CompositionRegistry → GenerationalHandle → Hits → Outcome → Outcome
-refusalAfter damage r view own shortcut =
-    thenRefusal damage
-    (thenRefusal (viewRefusal (r .views) view)
-    (thenRefusal (hitsRefusal own)
-    (thenRefusal shortcut
-    (refusalIf (eqb (r .revision) 18446744073709551615) RevisionExhausted))))
 
 -- the refusal, and the trace that an accepted call keeps
 unfoldable pub decided : Outcome → CompositionRegistry → GenerationalHandle → ArbitrationEvent → Hits → Decision

@@ -3,7 +3,7 @@ use Prim.Native.Nat.{ℕ, _-_}
 use mathlib.Core.Bool.{cond}
 use mathlib.Core.List.{List, [], _∷_, _++_}
 use lib.ListN.{length, drop}
-use lib.Dec.{ltb}
+use lib.Dec.{eqb, ltb}
 use Rattle.lists.specs.Tables.{entriesOf, packed}
 use Rattle.records.specs.declared.trace.CompositionTrace.{CompositionTrace}
 use Rattle.records.specs.declared.trace.Traces.{Traces}
@@ -13,10 +13,10 @@ use Rattle.records.specs.Traces.{traces}
 abbrev pub lastOf : {E : Type 0} → ℕ → List E → List E
 lastOf n l = drop (length l - n) l
 
--- how many of the older traces stay beside a new one: the limit, at most 32, less one
-abbrev pub keptBefore : ℕ → ℕ
-keptBefore limit = cond (ltb limit 32) (limit - 1) 31
+-- how many traces stay: the limit, at most 32, and the new one always
+abbrev pub keptTraces : ℕ → ℕ
+keptTraces limit = cond (eqb limit 0) 1 (cond (ltb limit 32) limit 32)
 
--- the traces with a new one at the end
+-- the last of the old traces with the new one
 unfoldable pub traced : ℕ → Traces → CompositionTrace → Traces
-traced limit t e = packed traces (lastOf (keptBefore limit) (entriesOf traces t) ++ (e ∷ []))
+traced limit t e = packed traces (lastOf (keptTraces limit) (entriesOf traces t ++ (e ∷ [])))

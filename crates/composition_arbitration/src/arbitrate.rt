@@ -1,8 +1,8 @@
 // One event, arbitrated: a system shortcut's winner alone gets it, and else the walk decides.
 ghost use mathlib.Core.Path.{_≡_};
 ghost use Rattle.composition_state.specs.Registry.{withTraces, withRevision};
-ghost use Rattle.composition_arbitration.specs.Arbitration.{isStack, ownHits, hitsRefusal, resolution, alone, orAlone, walkIn, unresolved, nextRevision, traceOf, arbitrated};
-ghost use Rattle.composition_arbitration.specs.Decisions.{refusalAfter, decided, resultOf};
+ghost use Rattle.composition_arbitration.specs.Arbitration.{isStack, ownHits, hitsRefusal, resolution, alone, orAlone, walkIn, unresolved, nextRevision, refusalAfter, traceOf, arbitrated};
+ghost use Rattle.composition_arbitration.specs.Decisions.{decided, resultOf};
 use crate::walk::Walked;
 use composition_shortcuts::resolve::Resolved;
 use composition_shortcuts::resolve::resolve_system_shortcut;
@@ -128,10 +128,11 @@ fn walk_in(
     crate::walk::walk_layers(registry.surfaces, choice, hits, layers)
 }
 
+// At the last revision the call is refused 21, so its first case is never met by an accepted call.
 fn next_revision(revision: u64) -> u64
     ensures { λ r. ⌜ r ≡ nextRevision revision ⌝ }
 {
-    if revision == 18446744073709551615 {
+    if revision == u64::MAX {
         return revision;
     }
     revision + 1
@@ -148,7 +149,7 @@ fn arbitrate_refusal(
     ensures { λ r. ⌜ r ≡ refusalAfter damage registry view hits resolved ⌝ }
 {
     let exhausted = records::error::refuse_if(
-        registry.revision == 18446744073709551615,
+        registry.revision == u64::MAX,
         CompositionError::RevisionExhausted,
     );
     let unknown = registry.views.refusal(view);

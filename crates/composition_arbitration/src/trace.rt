@@ -4,7 +4,7 @@ ghost use Prim.Native.Nat.{_-_};
 ghost use lib.ListN.{length};
 ghost use Rattle.lists.specs.Tables.{entriesOf};
 ghost use Rattle.records.specs.Traces.{traces as stateTraces};
-ghost use Rattle.composition_arbitration.specs.Trace.{keptBefore, traced};
+ghost use Rattle.composition_arbitration.specs.Trace.{keptTraces, traced};
 use records::trace::CompositionTrace;
 use records::trace::Traces;
 
@@ -18,19 +18,20 @@ fn count(traces: Traces) -> usize
     32
 }
 
-// How many of the older traces stay beside a new one.
-fn kept_before(limit: u64) -> usize
-    ensures { λ r. ⌜ r ≡ keptBefore limit ⌝ }
+// How many traces stay, the new one among them.
+fn kept_traces(limit: u64) -> usize
+    ensures { λ r. ⌜ r ≡ keptTraces limit ⌝ }
 {
     if limit == 0 {
-        return 0;
+        return 1;
     }
     if limit < 32 {
-        return (limit - 1) as usize;
+        return limit as usize;
     }
-    31
+    32
 }
 
+// The place of the first of n traces that stays.
 fn first_kept(n: usize, kept: usize) -> usize
     ensures { λ r. ⌜ r ≡ n - kept ⌝ }
 {
@@ -46,7 +47,7 @@ pub fn push_trace(traces: Traces, limit: u64, trace: CompositionTrace) -> Traces
     ensures { λ r. ⌜ r ≡ traced limit traces trace ⌝ }
 {
     let n = count(traces);
-    let from = first_kept(n, kept_before(limit));
+    let from = first_kept(n + 1, kept_traces(limit));
     let mut next = Traces::new();
     let mut i = from;
     while i < n {

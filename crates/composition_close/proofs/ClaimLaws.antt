@@ -10,6 +10,7 @@ use lib.Dec.{eqb}
 use lib.ListN.{length}
 use Rattle.lists.specs.Lists.{keep, first, all}
 use Rattle.lists.specs.Tables.{entriesOf, pushed}
+use Rattle.lists.specs.Numbers.{maxU64}
 use Rattle.lists.proofs.ListLaws.{by-test, clash, some≢none, keep-passes}
 use Rattle.lists.proofs.TableLaws.{entries-packed}
 use Rattle.handles.specs.Handles.{sameHandle, holdsHandle}
@@ -67,7 +68,7 @@ checks-early r h n l m q = early (not (isSound r)) (surfaceStatus (r .surfaces) 
 -- a change that 21 refuses stays
 advanced-stays : (c : CompositionRegistry) → advanced c .outcome ≡ Refused RevisionExhausted → advanced c .registry ≡ c
 unfolding advanced
-advanced-stays c q = by-test (eqb (c .revision) 18446744073709551615)
+advanced-stays c q = by-test (eqb (c .revision) maxU64)
     (λ t. rw t)
     (λ t. refused≢accepted (sym (rw t at q)))
 

@@ -9,6 +9,7 @@ use mathlib.Core.List.{List, [], _∷_, reverse}
 use lib.Dec.{ltb}
 use Rattle.lists.specs.Below.{iterBelow}
 use Rattle.lists.specs.Tables.{entriesOf, packed, pushed}
+use Rattle.lists.specs.Numbers.{maxU64}
 use Rattle.handles.specs.Handles.{handleOf}
 use Rattle.handles.specs.Slots.{slotAt, released, usedPlaces, noneExhausted, handlesTable, liveHandles}
 use Rattle.handles.specs.declared.GenerationalHandle.{GenerationalHandle}
@@ -30,7 +31,7 @@ use Rattle.composition_close.specs.Close.{closedPanel}
 
 -- 21: the revision cannot rise once for each live panel, view and window
 abbrev pub isOver : ℕ → ℕ → ℕ → ℕ → Bool
-isOver revision surfaces views windows = ltb 18446744073709551615 (revision + surfaces + views + windows)
+isOver revision surfaces views windows = ltb maxU64 (revision + surfaces + views + windows)
 
 -- 22: a filled slot is at the last generation
 abbrev pub isAnyExhausted : CompositionRegistry → Bool

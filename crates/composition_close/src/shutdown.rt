@@ -47,7 +47,7 @@ impl CloseReports {
 fn is_over(revision: u64, surfaces: usize, views: usize, windows: usize) -> bool
     ensures { λ r. ⌜ r ≡ isOver revision surfaces views windows ⌝ }
 {
-    let room = 18446744073709551615 - revision;
+    let room = u64::MAX - revision;
     if surfaces as u64 > room {
         return true;
     }

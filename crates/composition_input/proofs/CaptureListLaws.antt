@@ -1,16 +1,16 @@
 -- A list of captures gathered from maps of captures: each map is copied entry by entry after what the list holds, and each has at most 32.
 use Prim.Native.Nat.{ℕ, _+_, _*_, _≤_}
 use mathlib.Core.Path.{_≡_, sym, ap, _∙_}
-use mathlib.Core.List.{List, [], _++_}
+use mathlib.Core.List.{List, [], _++_, foldl}
 use native.Mathlib.Omega.{arith}
 use borrow.Author.Tests.{ltb-true}
 use lib.Dec.{ltb}
 use lib.ListN.{length, length-append}
 use Rattle.lists.specs.Below.{iterBelow}
-use Rattle.lists.specs.Tables.{Shape, entriesOf, packed}
+use Rattle.lists.specs.Tables.{entriesOf, packed, pushedWithin}
 use Rattle.lists.proofs.BelowLaws.{iter-more}
 use Rattle.lists.proofs.ListLaws.{by-test}
-use Rattle.lists.proofs.TableLaws.{entry, entries-packed}
+use Rattle.lists.proofs.TableLaws.{entries-packed, all-within}
 use Rattle.maps.specs.Captures.{captures}
 use Rattle.maps.specs.declared.captures.Capture.{Capture}
 use Rattle.maps.specs.declared.captures.PointerCaptures.{PointerCaptures}
@@ -31,17 +31,10 @@ module _ (f : ℕ → List Capture) (i : ℕ) where
   gathered-fits h k = rw gathered-more (simp length-append (omega arith))
 
   pub gathered-turn : (list next : CaptureList) (m : PointerCaptures) → list ≡ packed captureList (gathered f i) → m ≡ packed captures (f i)
-      → next ≡ packed captureList (entriesOf captureList list ++ entriesOf captures m) → next ≡ packed captureList (gathered f (i + 1))
-  gathered-turn list next m a b e =
-      e ∙ rw (a, b, entries-packed captureList (gathered f i), entries-packed captures (f i), gathered-more)
-
--- a list that is packed is packed by its own entries
-module _ (list : CaptureList) (l : List Capture) (e : list ≡ packed captureList l) where
-  pub entries-are : entriesOf captureList list ≡ l
-  entries-are = ap (entriesOf captureList) e ∙ entries-packed captureList l
-
-  pub packed-self : list ≡ packed captureList (entriesOf captureList list)
-  packed-self = e ∙ ap (packed captureList) (sym entries-are)
+      → length (gathered f i) + length (f i) ≤ 512
+      → next ≡ foldl (pushedWithin captureList) list (entriesOf captures m) → next ≡ packed captureList (gathered f (i + 1))
+  gathered-turn list next m a b room e =
+      e ∙ rw (a, b, entries-packed captures (f i), all-within captureList (gathered f i) (f i) room, gathered-more)
 
 pub slots-few : (t : ViewTable) → viewSlots t ≤ 16
 slots-few t = by-test (ltb (t .arena .used) 16)

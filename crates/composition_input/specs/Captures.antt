@@ -1,6 +1,6 @@
 -- Document 01, Capture: 20, 18 for a bad pointer, 11/12, 18, 8/9, 41, 21. Release of a pointer: 20, 11/12, 8/9, 18, 21. Device captures: 18, 21. Each after 42.
 use Prim.Native.Nat.{ℕ}
-use mathlib.Core.Bool.{Bool, cond, not, _||_}
+use mathlib.Core.Bool.{Bool, cond, not, _&&_, _||_}
 use mathlib.Core.List.{List, [], _++_}
 use lib.ListN.{length}
 use lib.Dec.{eqb}
@@ -106,9 +106,11 @@ releasePointer r surface expected =
 abbrev pub isOfDevice : ℕ → ℕ → Capture → Bool
 isOfDevice device generation e = deviceSame (captureKey e) (record { value = device; generation = generation })
 
--- PRIMARY is among the captures of the device
+-- the map has PRIMARY, and PRIMARY is of the device
 abbrev pub losesPrimary : ℕ → ℕ → PointerCaptures → Bool
-losesPrimary device generation t = isSome (found captures captureKey (pointerKey primary) (retained captures (isOfDevice device generation) t))
+losesPrimary device generation t =
+    isSome (found captures captureKey (pointerKey primary) t)
+    && deviceSame (pointerKey primary) (record { value = device; generation = generation })
 
 -- the map without the captures of the device; where PRIMARY was among them, the view's single field empties too
 abbrev pub leftView : ℕ → ℕ → ViewRecord → ViewRecord

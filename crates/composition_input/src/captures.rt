@@ -23,6 +23,7 @@ use maps::captures::PointerCaptures;
 use maps::keys::CompositionPointerId;
 use maps::keys::InputDeviceId;
 use maps::keys::key_same;
+use maps::keys::of_device;
 use maps::keys::pointer_key;
 use maps::tests::EntryTest;
 use maps::tests::KeyTest;
@@ -147,19 +148,20 @@ pub fn release_pointer(
     )
 }
 
-// Whether PRIMARY is among the captures of the device.
+// Whether PRIMARY is captured and of the device.
 fn loses_primary(captures: PointerCaptures, device: u64, generation: u32) -> bool
     ensures { λ r. ⌜ r ≡ losesPrimary device generation captures ⌝ }
 {
-    let id = InputDeviceId {
-        value: device,
-        generation,
-    };
-    let taken = captures.retain(EntryTest::Key(KeyTest::OfDevice(id)));
-    let holder = taken.get(CompositionPointerId::PRIMARY);
+    let holder = captures.get(CompositionPointerId::PRIMARY);
     match holder {
         OptionalHandle::None => false,
-        OptionalHandle::Some(_) => true,
+        OptionalHandle::Some(_) => {
+            let id = InputDeviceId {
+                value: device,
+                generation,
+            };
+            of_device(pointer_key(CompositionPointerId::PRIMARY), id)
+        },
     }
 }
 

@@ -2,6 +2,7 @@
 use Prim.Native.Nat.{ℕ, _+_}
 use mathlib.Core.Bool.{Bool, true, false, cond, not}
 use lib.Dec.{eqb}
+use Rattle.lists.specs.Numbers.{maxU64}
 use Rattle.geometry.specs.Metrics.{isValidMetrics, atRevision}
 use Rattle.geometry.specs.declared.metrics.ViewMetrics.{ViewMetrics}
 use Rattle.geometry.specs.declared.metrics.ViewMetricsUpdate.{ViewMetricsUpdate}
@@ -31,11 +32,11 @@ metricsRefusal r view update expected =
     (thenRefusal (refusalIf (not (isValidMetrics update)) InvalidMetrics)
     (thenRefusal (viewRefusal (r .views) view)
     (thenRefusal (conflictRefusal (currentRevision r view) expected)
-    (refusalIf (eqb (currentRevision r view) 18446744073709551615) RevisionExhausted))))
+    (refusalIf (eqb (currentRevision r view) maxU64) RevisionExhausted))))
 
--- the metrics' revision rises by 1 too; past the last one, which is refused, it would start again
+-- the metrics' revision rises by 1 too; at the last one the update is refused 21, so that case is never met
 abbrev pub nextMetrics : ViewMetrics → ViewMetricsUpdate → ViewMetrics
-nextMetrics m update = atRevision update (cond (eqb (m .revision) 18446744073709551615) 0 (m .revision + 1))
+nextMetrics m update = atRevision update (cond (eqb (m .revision) maxU64) 0 (m .revision + 1))
 
 abbrev pub newMetrics : CompositionRegistry → GenerationalHandle → ViewMetricsUpdate → ViewMetrics
 newMetrics r view update = nextMetrics (viewAt (r .views) view .metrics) update

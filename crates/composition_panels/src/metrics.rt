@@ -24,7 +24,7 @@ fn metrics_refusal(
     let current = record.metrics;
     let valid = geometry::metrics::validate_view_metrics(update);
     let invalid = records::error::refuse_if(!valid, CompositionError::InvalidMetrics);
-    let last = current.revision == 18446744073709551615;
+    let last = current.revision == u64::MAX;
     let exhausted = records::error::refuse_if(last, CompositionError::RevisionExhausted);
     let conflict = composition_state::registry::expect_revision(current.revision, expected);
     let live = registry.views.refusal(view);
@@ -33,11 +33,11 @@ fn metrics_refusal(
         .then(invalid.then(live.then(conflict.then(exhausted))))
 }
 
-// The metrics after the current ones; the last revision has none, and is refused before.
+// The metrics after the current ones. At the last revision the update is refused 21, so that case is never met.
 fn next_metrics(current: ViewMetrics, update: ViewMetricsUpdate) -> ViewMetrics
     ensures { λ r. ⌜ r ≡ nextMetrics current update ⌝ }
 {
-    if current.revision == 18446744073709551615 {
+    if current.revision == u64::MAX {
         return update.at_revision(0);
     }
     update.at_revision(current.revision + 1)

@@ -9,6 +9,7 @@ use lib.Dec.{eqb, ltb, leb}
 use lib.ListN.{length, length-take}
 use Rattle.lists.specs.Lists.{keep, all}
 use Rattle.lists.specs.Tables.{entriesOf, packed}
+use Rattle.lists.specs.Numbers.{maxU64}
 use Rattle.lists.proofs.ListLaws.{by-test, clash, and-left, and-right, length-keep}
 use Rattle.lists.proofs.TableLaws.{entries-packed, len-packed}
 use Rattle.handles.specs.declared.arena.SlotStatus.{SlotStatus}
@@ -48,7 +49,7 @@ module _ (n : ℕ) where
 
 last-not : (c : CompositionRegistry) → numberOf (advanced c .outcome) ≡ 18 → ⊥
 unfolding advanced
-last-not c h = by-test (eqb (c .revision) 18446744073709551615)
+last-not c h = by-test (eqb (c .revision) maxU64)
     (λ t. let k : 21 ≡ 18 = simp t at h in omega arith)
     (λ t. let k : 0 ≡ 18 = simp t at h in omega arith)
 
@@ -160,6 +161,6 @@ module _ (r : CompositionRegistry) (h : GenerationalHandle) (o : Observing r h) 
       room : length (keep (isOfOtherSlot (h .index)) (entriesOf shortcuts (r .shortcuts))) ≤ 256
       room = omega (arith, few, length-keep (isOfOtherSlot (h .index)) (entriesOf shortcuts (r .shortcuts)))
 
-  pub none-is : (r .revision ≡ 18446744073709551615 → ⊥) → setNumber r h (packed registrations []) ≡ 0
+  pub none-is : (r .revision ≡ maxU64 → ⊥) → setNumber r h (packed registrations []) ≡ 0
   unfolding advanced
   none-is n = number-is (packed registrations []) Accepted none-left ∙ rw (ne-eqb _ _ n)

@@ -4,6 +4,7 @@ use mathlib.Core.Path.{_≡_}
 use mathlib.Core.Bool.{true, false}
 use mathlib.Core.List.{[], _∷_, List·Memᴰ}
 use Rattle.lists.specs.Tables.{entriesOf, packed}
+use Rattle.lists.specs.Numbers.{maxU64}
 use Rattle.handles.specs.declared.arena.SlotStatus.the-variants.{Live}
 use Rattle.handles.specs.declared.GenerationalHandle.{GenerationalHandle}
 use Rattle.handles.specs.declared.OptionalHandle.the-variants.{None, Some}
@@ -75,4 +76,4 @@ pub record ShortcutClaims : Type 0 where
   -- document 01, Counter table: 65 registrations on an Observe panel: 3; one there: 18; none: accepted
   pub observe-many : (r : CompositionRegistry) (h : GenerationalHandle) → Observing r h → (t : Registrations) → t .len ≡ 65 → setNumber r h t ≡ 3
   pub observe-one : (r : CompositionRegistry) (h : GenerationalHandle) → Observing r h → (g : SurfaceShortcutRegistration) → setNumber r h (packed registrations (g ∷ [])) ≡ 18
-  pub observe-none : (r : CompositionRegistry) (h : GenerationalHandle) → Observing r h → (r .revision ≡ 18446744073709551615 → ⊥) → setNumber r h (packed registrations []) ≡ 0
+  pub observe-none : (r : CompositionRegistry) (h : GenerationalHandle) → Observing r h → (r .revision ≡ maxU64 → ⊥) → setNumber r h (packed registrations []) ≡ 0

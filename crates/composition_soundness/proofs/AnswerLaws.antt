@@ -6,6 +6,7 @@ use lib.Dec.{eqb, ltb}
 use lib.ListN.{length}
 use Rattle.lists.specs.Lists.{all}
 use Rattle.lists.specs.Tables.{entriesOf}
+use Rattle.lists.specs.Numbers.{maxU64}
 use Rattle.lists.proofs.ListLaws.{clash}
 use Rattle.geometry.specs.Metrics.{isValidMetrics}
 use Rattle.geometry.specs.Surface.{isValidGeometry}
@@ -76,7 +77,7 @@ module _ (r : CompositionRegistry) (s : isSound r ≡ true) where
   clear (close-view v) = settled-clear (closeViewRefusal r v) r _ (then-clear (damage r s) (then-clear (view-at r v)
       (then-clear (if-clear (hasLayers (r .views) v) ViewInUse refl) (exhausted-clear (released (r .views .arena) v .outcome)))))
   clear (metrics v u n) = settled-clear (metricsRefusal r v u n) r _ (then-clear (damage r s) (then-clear (if-clear (not (isValidMetrics u)) InvalidMetrics refl)
-      (then-clear (view-at r v) (then-clear (conflict (currentRevision r v) n) (if-clear (eqb (currentRevision r v) 18446744073709551615) RevisionExhausted refl)))))
+      (then-clear (view-at r v) (then-clear (conflict (currentRevision r v) n) (if-clear (eqb (currentRevision r v) maxU64) RevisionExhausted refl)))))
   clear (attach d) = settled-clear (attachRefusal r d) r _ (then-clear (damage r s) (then-clear (if-clear (not (isValidGeometry (d .geometry))) InvalidGeometry refl)
       (then-clear (view-at r (d .view)) (then-clear (if-clear (eqb (layerCount (r .views) (d .view)) (r .limits .«max_surfaces_per_view»)) PerViewCapacity refl)
       (if-clear (eqb (r .surfaces .arena .live) (r .limits .«max_surfaces»)) Capacity refl)))))
@@ -104,7 +105,7 @@ module _ (r : CompositionRegistry) (s : isSound r ≡ true) where
       (if-clear (not (fits (h .index) t (r .shortcuts))) PortLimit refl))))))
   clear (arbitrate v e h) = settled-clear (arbitrateRefusal r v (ownHits e h) (resolution r v e .outcome)) r _ (then-clear (damage r s) (then-clear (view-at r v)
       (then-clear (if-clear (ltb 16 (ownHits e h .len)) PortLimit refl) (then-clear (resolution-clear r v e)
-      (if-clear (eqb (r .revision) 18446744073709551615) RevisionExhausted refl)))))
+      (if-clear (eqb (r .revision) maxU64) RevisionExhausted refl)))))
   clear (close-surface h) = close-clear h (closeRefusal r h) (then-clear (damage r s) (then-clear (panel-at r h) (view-at r (panelView (r .surfaces) h))))
   clear shutdown = shutdown-clear (shutdownRefusal r) (then-clear (damage r s)
       (then-clear (if-clear (isOver (r .revision) (r .surfaces .arena .live) (r .views .arena .live) (r .windows .live)) RevisionExhausted refl) (if-clear (isAnyExhausted r) GenerationExhausted refl)))

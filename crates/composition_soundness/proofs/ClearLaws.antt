@@ -23,6 +23,7 @@ use Prim.Native.Nat.{ℕ}
 use mathlib.Core.Option.{Option, none, some}
 use Rattle.lists.specs.Lists.{first}
 use Rattle.lists.specs.Tables.{entriesOf}
+use Rattle.lists.specs.Numbers.{maxU64}
 use Rattle.handles.specs.Slots.{lookupOf, liveHandles}
 use Rattle.handles.specs.declared.arena.Arena.{Arena}
 use Rattle.records.specs.declared.surface.SurfaceTable.{SurfaceTable}
@@ -70,7 +71,7 @@ exhausted-clear release.GenerationExhausted = record { clear = refl }
 
 advanced-clear : (c : CompositionRegistry) → Clear (advanced c .outcome)
 unfolding advanced
-advanced-clear c = either (λ (x : Changed). Clear (x .outcome)) (eqb (c .revision) 18446744073709551615) _ _ (record { clear = refl }) accepted
+advanced-clear c = either (λ (x : Changed). Clear (x .outcome)) (eqb (c .revision) maxU64) _ _ (record { clear = refl }) accepted
 
 pub settled-clear : (o : Outcome) (r c : CompositionRegistry) → Clear o → Clear (settled o r c .outcome)
 settled-clear Accepted r c p = advanced-clear c

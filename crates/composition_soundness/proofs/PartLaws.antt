@@ -7,6 +7,7 @@ use borrow.Author.Tests.{leb-true, le-leb, ltb-false, eqb-false, not-true}
 use lib.Dec.{eqb, leb, ltb}
 use lib.ListN.{length}
 use Rattle.lists.specs.Below.{allBelow}
+use Rattle.lists.specs.Numbers.{maxU64}
 use Rattle.lists.proofs.BelowLaws.{all-at, all-of}
 use Rattle.lists.proofs.ListLaws.{by-test, and-left, and-right, and-both}
 use Rattle.handles.specs.Handles.{handleOf}
@@ -158,7 +159,7 @@ again n c p = record {
 
 pub revised : (c : CompositionRegistry) → Parts c → Parts (advanced c .registry)
 unfolding advanced
-revised c p = either (λ (x : Changed). Parts (x .registry)) (eqb (c .revision) 18446744073709551615) _ _ p (again (c .revision + 1) c p)
+revised c p = either (λ (x : Changed). Parts (x .registry)) (eqb (c .revision) maxU64) _ _ p (again (c .revision + 1) c p)
 
 pub keeps : (o : Outcome) (r c : CompositionRegistry) → Parts r → (o ≡ Accepted → Parts c) → Parts (settled o r c .registry)
 keeps Accepted r c p f = revised c (f refl)

@@ -8,6 +8,7 @@ use borrow.Author.Tests.{eq-eqb, not-true, not-false}
 use lib.Dec.{eqb}
 use Rattle.lists.specs.Below.{iterBelow}
 use Rattle.lists.specs.Tables.{entriesOf, packed}
+use Rattle.lists.specs.Numbers.{maxU64}
 use Rattle.lists.proofs.BelowLaws.{all-at}
 use Rattle.lists.proofs.ListLaws.{by-test, clash, and-left, and-right, and-both}
 use Rattle.handles.specs.Claims.{Proper}
@@ -45,7 +46,7 @@ use Rattle.composition_soundness.proofs.CloseLaws.{panel-closed}
 -- a raised revision leaves the views
 raised-views : (c : CompositionRegistry) → advanced c .registry .views ≡ c .views
 unfolding advanced
-raised-views c = either (λ (x : Changed). x .registry .views ≡ c .views) (eqb (c .revision) 18446744073709551615) _ _ refl refl
+raised-views c = either (λ (x : Changed). x .registry .views ≡ c .views) (eqb (c .revision) maxU64) _ _ refl refl
 
 -- ---- panels, one after the other
 layers-closed : (l : List GenerationalHandle) (w : Closing) → Parts (w .registry) → Parts (layersClosed l w .registry)

@@ -4,7 +4,7 @@ use mathlib.Core.Path.{_≡_, refl, sym, ap, _∙_, subst}
 use mathlib.Core.Bool.{true}
 use mathlib.Core.List.{List, [], _∷_, _++_, reverse}
 use native.Mathlib.Omega.{arith}
-use borrow.Author.Tests.{le-leb, ltb-false}
+use borrow.Author.Tests.{le-leb, ltb-false, ne-eqb}
 use lib.Dec.{leb, ltb}
 use lib.ListN.{length, drop, length-append, length-drop, length-map, length-reverse}
 use Rattle.lists.specs.Lists.{keep, all}
@@ -32,30 +32,31 @@ use Rattle.composition_arbitration.specs.declared.walk.Walked.{Walked}
 use Rattle.composition_arbitration.specs.Arbitration.{ownHits, hitsRefusal, resolution, alone, orAlone, walkIn, arbitration, nextRevision, arbitrateRefusal, traceOf, concluded, arbitrated}
 use Rattle.composition_arbitration.specs.Layers.{delivers, consumes, verdictAt, untilConsumed, walked, deliveriesOf, walkOf}
 use Rattle.composition_arbitration.specs.Targets.{chosen}
-use Rattle.composition_arbitration.specs.Trace.{keptBefore, traced}
+use Rattle.composition_arbitration.specs.Trace.{lastOf, keptTraces, traced}
 use Rattle.composition_soundness.proofs.CaseLaws.{then-first, status-live}
 use Rattle.composition_soundness.proofs.ListLaws.{all-drop, entries-few}
 use Rattle.composition_soundness.proofs.PartLaws.{Parts, bounds, keeps}
 use Rattle.composition_soundness.proofs.ChangeLaws.{traces-changed, view-of}
 
 -- ---- the traces with one more
-one-more : (limit : ℕ) → (limit ≡ 0 → ⊥) → keptBefore limit + 1 ≤ limit
-one-more limit n = by-test (ltb limit 32) (λ t. rw t (positive n)) (λ t. rw t (omega (arith, ltb-false limit 32 t)))
-  where
-    positive : {m : ℕ} → (m ≡ 0 → ⊥) → (m - 1) + 1 ≤ m
-    positive {m} d = omega arith
+within-limit : (limit : ℕ) → (limit ≡ 0 → ⊥) → keptTraces limit ≤ limit
+within-limit limit n = by-test (ltb limit 32)
+    (λ t. rw (ne-eqb limit 0 n, t) (omega arith))
+    (λ t. rw (ne-eqb limit 0 n, t) (omega (arith, ltb-false limit 32 t)))
 
-last-few : {E : Type 0} (n : ℕ) (l : List E) → length (drop (length l - n) l) ≤ n
+last-few : {E : Type 0} (n : ℕ) (l : List E) → length (lastOf n l) ≤ n
 last-few n l = simp length-drop (omega arith)
 
 pub traced-sound : (limit : ℕ) (t : Traces) (e : CompositionTrace) → (limit ≡ 0 → ⊥) → traceSound e ≡ true → tracesSound limit t ≡ true → tracesSound limit (traced limit t e) ≡ true
 unfolding tracesSound traced
 traced-sound limit t e some sound h =
-    let old = drop (length (entriesOf traces t) - keptBefore limit) (entriesOf traces t) in
-    let few : length (old ++ (e ∷ [])) ≤ limit = rw (length-append old (e ∷ [])) (omega (arith, last-few (keptBefore limit) (entriesOf traces t), one-more limit some)) in
-    and-both (ap (λ (n : ℕ). leb n limit) (len-packed traces (old ++ (e ∷ []))) ∙ le-leb _ limit few)
-    (ap (all traceSound) (entries-packed traces (old ++ (e ∷ []))) ∙ all-append traceSound old (e ∷ [])
-    ∙ and-both (all-drop traceSound (length (entriesOf traces t) - keptBefore limit) (entriesOf traces t) (and-right (leb (t .len) limit) _ h)) (and-both sound refl))
+    let full = entriesOf traces t ++ (e ∷ []) in
+    let kept = lastOf (keptTraces limit) full in
+    let few : length kept ≤ limit = omega (arith, last-few (keptTraces limit) full, within-limit limit some) in
+    and-both (ap (λ (n : ℕ). leb n limit) (len-packed traces kept) ∙ le-leb _ limit few)
+    (ap (all traceSound) (entries-packed traces kept)
+    ∙ all-drop traceSound (length full - keptTraces limit) full
+    (all-append traceSound (entriesOf traces t) (e ∷ []) ∙ and-both (and-right (leb (t .len) limit) _ h) (and-both sound refl)))
 
 -- ---- the deliveries
 module _ (at : GenerationalHandle → Verdict) where

@@ -4,6 +4,7 @@ use mathlib.Core.Path.{_≡_, refl, sym, ap, _∙_}
 use mathlib.Core.Bool.{Bool, true, false}
 use native.Mathlib.Omega.{arith}
 use lib.Dec.{eqb}
+use Rattle.lists.specs.Numbers.{maxU64}
 use Rattle.lists.proofs.ListLaws.{by-test, clash}
 use Rattle.records.specs.declared.error.CompositionError.{CompositionError}
 use Rattle.records.specs.declared.error.CompositionError.the-variants.{RevisionExhausted}
@@ -13,10 +14,6 @@ use Rattle.composition_state.specs.declared.registry.CompositionRegistry
 use Rattle.records.specs.Errors.{thenRefusal, refusalIf, isAccepted}
 use Rattle.composition_state.specs.Registry.{withRevision, advanced, settled}
 use Rattle.composition_state.specs.Settles.{Settles}
-
--- the last revision
-abbrev pub last : ℕ
-last = 18446744073709551615
 
 refused≢accepted {ℓ} : {P : Type ℓ} {e : CompositionError} → Refused e ≡ Accepted → P
 refused≢accepted {P} {e} q = let z : _≡_ {A = ℕ} 0 1 = cc in absurd (omega arith)
@@ -41,7 +38,7 @@ same-error {e} {f} q = cc
 -- an accepted change is the changed registry with its revision raised
 advanced-is : (c : CompositionRegistry) → advanced c .outcome ≡ Accepted → advanced c .registry ≡ withRevision (c .revision + 1) c
 unfolding advanced
-advanced-is c h = by-test (eqb (c .revision) last)
+advanced-is c h = by-test (eqb (c .revision) maxU64)
     (λ t. refused≢accepted (simp t at h))
     (λ t. simp t)
 
@@ -51,7 +48,7 @@ accepted-is (Refused e) r c h = refused≢accepted h
 
 advanced-refused : (c : CompositionRegistry) (e : CompositionError) → advanced c .outcome ≡ Refused e → e ≡ RevisionExhausted
 unfolding advanced
-advanced-refused c e h = by-test (eqb (c .revision) last)
+advanced-refused c e h = by-test (eqb (c .revision) maxU64)
     (λ t. sym (same-error (simp t at h)))
     (λ t. refused≢accepted (sym (simp t at h)))
 
@@ -65,7 +62,7 @@ settled-accepted Accepted r c h = refl
 settled-accepted (Refused e) r c h = refused≢accepted h
 
 -- where 21 is among the checks, every refusal leaves the registry as it came
-pub refused-early : (o : Outcome) (r c : CompositionRegistry) (e : CompositionError) → (o ≡ Accepted → eqb (c .revision) last ≡ false)
+pub refused-early : (o : Outcome) (r c : CompositionRegistry) (e : CompositionError) → (o ≡ Accepted → eqb (c .revision) maxU64 ≡ false)
     → settled o r c .outcome ≡ Refused e → settled o r c .registry ≡ r
 unfolding advanced
 refused-early Accepted r c e room h = refused≢accepted (sym (simp (room refl) at h))

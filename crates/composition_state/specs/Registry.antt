@@ -2,6 +2,7 @@
 use Prim.Native.Nat.{ℕ, _+_}
 use mathlib.Core.Bool.{Bool, cond, not}
 use lib.Dec.{eqb}
+use Rattle.lists.specs.Numbers.{maxU64}
 use Rattle.handles.specs.Slots.{lookupOf}
 use Rattle.handles.specs.declared.GenerationalHandle.{GenerationalHandle}
 use Rattle.handles.specs.declared.arena.Arena.{Arena}
@@ -50,7 +51,7 @@ answered o r = record { outcome = o; registry = r }
 -- the revision rises by 1 a change; document 01: 21 comes after the change
 unfoldable pub advanced : CompositionRegistry → Changed
 advanced r =
-    cond (eqb (r .revision) 18446744073709551615)
+    cond (eqb (r .revision) maxU64)
     (answered (Refused RevisionExhausted) r)
     (answered Accepted (withRevision (r .revision + 1) r))
 

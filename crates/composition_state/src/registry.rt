@@ -101,7 +101,7 @@ impl CompositionRegistry {
         ensures { λ r. ⌜ r ≡ advanced self ⌝ }
     {
         let revision = self.revision;
-        if revision == 18446744073709551615 {
+        if revision == u64::MAX {
             return Changed {
                 outcome: Outcome::Refused(CompositionError::RevisionExhausted),
                 registry: self,

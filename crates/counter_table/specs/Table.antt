@@ -5,6 +5,7 @@ use mathlib.Core.List.{[], _∷_}
 use lib.Dec.{eqb, ltb}
 use lib.IntN.{ℤ, pos, negℤ}
 use Rattle.lists.specs.Tables.{packed}
+use Rattle.lists.specs.Numbers.{maxU64}
 use Rattle.geometry.specs.declared.transform.LocalPoint.the-variants.{At, Skipped}
 use Rattle.geometry.specs.Claims.{fromMinus500, scale, cancelling, geometryWith, point}
 use Rattle.geometry.specs.Rect.{contains}
@@ -82,7 +83,7 @@ pub record CounterTable : Type 0 where
   pub observe-panel : (r : CompositionRegistry) (h : GenerationalHandle) → Observing r h
       → ((t : Registrations) → t .len ≡ 65 → setNumber r h t ≡ 3)
       × ((g : SurfaceShortcutRegistration) → setNumber r h (packed registrations (g ∷ [])) ≡ 18)
-      × ((r .revision ≡ 18446744073709551615 → ⊥) → setNumber r h (packed registrations []) ≡ 0)
+      × ((r .revision ≡ maxU64 → ⊥) → setNumber r h (packed registrations []) ≡ 0)
   -- "A live panel with an unknown view in set focus: 17."
   pub unknown-view : (r : CompositionRegistry) (view h : GenerationalHandle) → isSound r ≡ true
       → surfaceStatus (r .surfaces) h ≡ Live

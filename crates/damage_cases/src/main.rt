@@ -2,6 +2,7 @@
 // answer.
 mod arenas;
 mod odd;
+mod reads;
 mod routers;
 mod views;
 
@@ -114,4 +115,5 @@ fn main() {
     views::ask_all(registry);
     odd::ask_all(registry);
     routers::ask_all(registry);
+    reads::ask_all(registry);
 }

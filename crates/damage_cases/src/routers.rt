@@ -133,11 +133,18 @@ fn with_limit(router: PlatformInputRouter, limit: u64) -> PlatformInputRouter {
 }
 
 // Two devices are known, and each of two panels holds a key of the first.
-fn base() -> PlatformInputRouter {
+pub fn base() -> PlatformInputRouter {
     let started = PlatformInputRouter::new(4);
     let low = key_press(7, 30, crate::first(0));
     let high = key_press(7, 31, crate::first(1));
     with_devices(with_presses(started.router, low, high, 2), 7, 8, 2)
+}
+
+// Two presses whose keys fall.
+pub fn with_falling_keys() -> PlatformInputRouter {
+    let high = key_press(7, 31, crate::first(0));
+    let low = key_press(7, 30, crate::first(1));
+    with_presses(base(), high, low, 2)
 }
 
 fn ask_with_presses(name: &[u8], registry: CompositionRegistry, low: u32, high: u32, len: usize) {

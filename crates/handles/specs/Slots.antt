@@ -47,7 +47,8 @@ statusOf s g = cond (s .filled && eqb (s .generation) g) Live Stale
 unfoldable pub lookupOf : Arena → GenerationalHandle → SlotStatus
 lookupOf a h = cond (isValid h && ltb (h .index) (a .used)) (statusOf (slotAt a (h .index)) (h .generation)) Invalid
 
--- a slot is free or was never used, and the counts are within the table
+-- a slot is free or was never used, and the counts are within the table; a registry within its limits has passed the
+-- damage test and has room, so the refused case is never met by its calls
 unfoldable pub hasRoom : ℕ → ℕ → ℕ → Bool
 hasRoom used freed live = leb used 64 && (leb freed 64 && (ltb live 64 && (ltb 0 freed || ltb used 64)))
 
@@ -79,7 +80,8 @@ refused o a = record { outcome = o; arena = a }
 abbrev pub emptied : Arena → GenerationalHandle → Arena
 emptied a h = arenaOf (set (a .slots) (h .index) (slotOf (h .generation + 1) false)) (a .used) (set (a .free) (a .freed) (h .index)) (a .freed + 1) (a .live - 1)
 
--- a live handle is released, unless its generation is the last; a free list that is full or a live count of 0 is refused too
+-- a live handle is released, unless its generation is the last; a free list that is full or a live count of 0 is refused
+-- too, which is never met: the damage test has counted the live slots and the free list before
 abbrev pub releasedLive : Arena → GenerationalHandle → ReleaseAnswer
 releasedLive a h =
     cond (eqb (h .generation) 4294967295) (refused outcome.GenerationExhausted a)

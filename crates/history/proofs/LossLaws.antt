@@ -35,12 +35,12 @@ use Rattle.composition_soundness.proofs.CaseLaws.{refused≢accepted}
 use Rattle.composition_soundness.proofs.ListLaws.{all-as, all-keep}
 use Rattle.input_events.specs.declared.event.PlatformInputEvent.{PlatformInputEvent}
 use Rattle.input_router.specs.declared.router.PlatformInputRouter.{PlatformInputRouter}
-use Rattle.input_router.specs.declared.view_releases.OptionalPress.the-variants.{None}
+use Rattle.input_router.specs.declared.view_releases.OptionalBinding.the-variants.{None}
 use Rattle.input_router.specs.Damage.{isRouterSound}
 use Rattle.release_lists.specs.Releases.{releases, addCaptures}
 use Rattle.input_router.specs.Releases.{isOfDevice as isOfRouterDevice, devicePresses, withoutDevice as routerWithout}
 use Rattle.input_router.specs.Router.{pressesOf}
-use Rattle.input_router.specs.ViewReleases.{isClosed, pressOf, firstClosed, isOfView, releaseView}
+use Rattle.input_router.specs.ViewReleases.{isClosed, closedBinding, firstClosed, isOfView, releaseView}
 use Rattle.input_router.proofs.ClaimLaws as router
 use Rattle.input_router.proofs.SoundLaws.{parts}
 use Rattle.input_releases.specs.Losses.{disconnectAfter, routedDisconnect, lossAfter, suspendedLoss, lossFrom, routedLoss}
@@ -140,7 +140,7 @@ module _ (l : Lists) (r : CompositionRegistry) (t : PlatformInputRouter) (b : Bo
 
     -- no press is on a closed panel
     none-closed : firstClosed (r .surfaces) (pressesOf t) ≡ None
-    none-closed = ap (firstClosed (r .surfaces)) (j .own .presses) ∙ ap pressOf (first-none (isClosed (r .surfaces)) (b .presses) (all-as (isHosted none r) (λ x. not (isClosed (r .surfaces) x)) unclosed (b .presses) (j .own .hosted)))
+    none-closed = ap (firstClosed (r .surfaces)) (j .own .presses) ∙ ap closedBinding (first-none (isClosed (r .surfaces)) (b .presses) (all-as (isHosted none r) (λ x. not (isClosed (r .surfaces) x)) unclosed (b .presses) (j .own .hosted)))
       where
         first-none : (p : Binding → Bool) (m : List Binding) → all (λ x. not (p x)) m ≡ true → first p m ≡ none
         first-none p [] h = refl

@@ -15,7 +15,7 @@ use Rattle.records.specs.declared.surface.SurfaceTable.{SurfaceTable}
 use Rattle.composition_soundness.proofs.CaseLaws.{either}
 use Rattle.release_lists.specs.Releases.{releases, isOn}
 use Rattle.input_router.specs.declared.router.PlatformInputRouter.{PlatformInputRouter}
-use Rattle.input_router.specs.declared.view_releases.OptionalPress.{OptionalPress}
+use Rattle.input_router.specs.declared.view_releases.OptionalBinding.{OptionalBinding}
 use Rattle.input_router.specs.Damage.{isRouterSound}
 use Rattle.input_router.specs.Releases.{isOfDevice, releaseSurface}
 use Rattle.input_router.specs.Router.{pressesOf}

@@ -6,6 +6,7 @@ use mathlib.Core.Option.{none}
 use borrow.Author.Tests.{eq-eqb, not-true, not-false}
 use lib.Dec.{eqb}
 use lib.ListN.{length}
+use Rattle.lists.specs.Numbers.{maxU64}
 use Rattle.lists.proofs.ListLaws.{by-test, and-left, and-right}
 use Rattle.lists.proofs.TableLaws.{entries-packed}
 use Rattle.handles.specs.declared.arena.SlotStatus.the-variants.{Live}
@@ -83,7 +84,7 @@ same-error {e} {f} q = cc
 
 advanced-last : (c : CompositionRegistry) (y : CompositionError) → advanced c .outcome ≡ outcome.Refused y → y ≡ RevisionExhausted
 unfolding advanced
-advanced-last c y q = by-test (eqb (c .revision) 18446744073709551615)
+advanced-last c y q = by-test (eqb (c .revision) maxU64)
     (λ t. sym (same-error (simp t at q)))
     (λ t. refused≢accepted (sym (simp t at q)))
 

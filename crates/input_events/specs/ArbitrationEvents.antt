@@ -39,7 +39,10 @@ abbrev pub shortcutEvent : Bool → ℕ → ArbitrationEvent
 shortcutEvent true mask = A.SystemShortcut mask
 shortcutEvent false mask = A.Shortcut
 
--- of a view's focus or visibility only the gain is arbitrated; a disconnect never is (the Rust has `unreachable!` there), so nothing rests on its row
+-- an Up, a Cancel and a disconnected snapshot ask for the panel that has their press, so that it can be told; a Down, a
+-- Move and a wheel ask for the hits. Of a view's focus or visibility only the gain is arbitrated, as the Rust's
+-- `FocusChanged { .. } | VisibilityChanged { .. } => Ok(ArbitrationEvent::Keyboard)`. A disconnect never is (the Rust has
+-- `unreachable!()` there), so nothing rests on its row.
 unfoldable pub arbitrationEventIn : InputDeviceId → PlatformInputPayload → OptionalHandle → ArbitrationEvent
 arbitrationEventIn d (Pointer p) held = pointerEvent (p .phase) (pointerOf d (p .contact)) held
 arbitrationEventIn d (Wheel w) held = A.PointerStackFor (pointerOf d (w .contact))

@@ -31,14 +31,14 @@ use Rattle.records.specs.declared.error.Outcome.the-variants.{Accepted, Refused
 use Rattle.records.specs.declared.surface.SurfaceTable.{SurfaceTable}
 use Rattle.input_router.specs.declared.order.Order.the-variants as order
 use Rattle.input_router.specs.declared.router.PlatformInputRouter.{PlatformInputRouter}
-use Rattle.input_router.specs.declared.view_releases.OptionalPress.the-variants.{None, Some}
+use Rattle.input_router.specs.declared.view_releases.OptionalBinding.the-variants.{None, Some}
 use Rattle.input_router.specs.Router.{isStarted, startOutcome, emptyRouter, started, withBindings, withSequences, withTimestamp, pressesOf}
 use Rattle.input_router.specs.Damage.{isRouterSound}
 use Rattle.input_router.specs.Order.{sequenceEntry, hasPlace, lastOf, isOld, orderOf, recorded}
 use Rattle.input_router.specs.Presses.{press, heldBy, hasRoom, opened, ended}
 use Rattle.release_lists.specs.Releases.{releases, isOn, byPanel}
 use Rattle.input_router.specs.Releases.{isOfDevice, releaseSurface, releaseAll, withoutDevicePresses, withoutDevice}
-use Rattle.input_router.specs.ViewReleases.{kindOf, isClosed, pressOf, firstClosed, closedRefusal, isOfView, isTaken, releaseView}
+use Rattle.input_router.specs.ViewReleases.{kindOf, isClosed, closedBinding, firstClosed, closedRefusal, isOfView, isTaken, releaseView}
 use Rattle.input_router.specs.Claims.{RouterClaims}
 use Rattle.lists.proofs.KeepLaws.{keep-in, keep-apart}
 use Rattle.release_lists.proofs.ReleaseLaws.{by-panel-length, by-panel-keeps, by-panel-ordered, presses-first, captures-listed}
@@ -150,7 +150,7 @@ first-passes p (f ∷ l) e q = by-test (p f)
 none-closed : (t : SurfaceTable) (l : List Binding) → closedRefusal t (firstClosed t l) ≡ Accepted → firstClosed t l ≡ None
 none-closed t l q = go (first (isClosed t) l) refl q
   where
-    go : (o : Option Binding) → first (isClosed t) l ≡ o → closedRefusal t (pressOf o) ≡ Accepted → pressOf o ≡ None
+    go : (o : Option Binding) → first (isClosed t) l ≡ o → closedRefusal t (closedBinding o) ≡ Accepted → closedBinding o ≡ None
     go none p h = refl
     go (some e) p h = clash (first-passes (isClosed t) l e p) (rw h)
 
@@ -204,7 +204,7 @@ view-stopped : (r : PlatformInputRouter) (t : SurfaceTable) (stop : Binding) →
     → all (λ e. not (ltb (kindOf e) (kindOf stop)) || not (isClosed t e)) (pressesOf r) ≡ true
 view-stopped r t stop h q = go (first (isClosed t) (pressesOf r)) refl q
   where
-    go : (o : Option Binding) → first (isClosed t) (pressesOf r) ≡ o → pressOf o ≡ Some stop
+    go : (o : Option Binding) → first (isClosed t) (pressesOf r) ≡ o → closedBinding o ≡ Some stop
         → all (λ e. not (ltb (kindOf e) (kindOf stop)) || not (isClosed t e)) (pressesOf r) ≡ true
     go none p k = let z : true ≡ false = cc in clash (sym z) refl
     go (some e) p k = let same : e ≡ stop = cc in first-kind t (pressesOf r) stop (rising-sorted keyOfBinding maps.keys (pressesOf r) (sound.parts r h .presses-rise)) (p ∙ ap some same)

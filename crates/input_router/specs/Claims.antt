@@ -23,7 +23,7 @@ use Rattle.records.specs.declared.error.Outcome.the-variants.{Accepted, Refused
 use Rattle.records.specs.declared.surface.SurfaceTable.{SurfaceTable}
 use Rattle.input_router.specs.declared.order.Order.the-variants.{InOrder}
 use Rattle.input_router.specs.declared.router.PlatformInputRouter.{PlatformInputRouter}
-use Rattle.input_router.specs.declared.view_releases.OptionalPress.the-variants.{Some}
+use Rattle.input_router.specs.declared.view_releases.OptionalBinding.the-variants.{Some}
 use Rattle.input_router.specs.Router.{isStarted, startOutcome, started, withBindings, withSequences, withTimestamp, pressesOf}
 use Rattle.input_router.specs.Damage.{isRouterSound}
 use Rattle.input_router.specs.Order.{sequenceEntry, orderOf, recorded}

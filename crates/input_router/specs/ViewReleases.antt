@@ -16,8 +16,8 @@ use Rattle.records.specs.declared.error.Outcome.{Outcome}
 use Rattle.records.specs.declared.error.Outcome.the-variants.{Accepted}
 use Rattle.records.specs.declared.surface.SurfaceTable.{SurfaceTable}
 use Rattle.input_router.specs.declared.router.PlatformInputRouter.{PlatformInputRouter}
-use Rattle.input_router.specs.declared.view_releases.OptionalPress.{OptionalPress}
-use Rattle.input_router.specs.declared.view_releases.OptionalPress.the-variants.{None, Some}
+use Rattle.input_router.specs.declared.view_releases.OptionalBinding.{OptionalBinding}
+use Rattle.input_router.specs.declared.view_releases.OptionalBinding.the-variants.{None, Some}
 use Rattle.input_router.specs.declared.view_releases.ViewReleased.{ViewReleased}
 use Rattle.input_router.specs.Router.{withBindings, pressesOf}
 
@@ -29,21 +29,25 @@ kindOf e = keyOfBinding e .kind
 abbrev pub isClosed : SurfaceTable → Binding → Bool
 isClosed surfaces e = not (isAccepted (surfaceRefusal surfaces (e .surface)))
 
-abbrev pub pressOf : Option Binding → OptionalPress
-pressOf none = None
-pressOf (some e) = Some e
+-- what a search for a closed panel's press answers
+abbrev pub closedBinding : Option Binding → OptionalBinding
+closedBinding none = None
+closedBinding (some e) = Some e
 
 -- the first press whose panel is closed: in table order, so of the first kind that has one
-abbrev pub firstClosed : SurfaceTable → List Binding → OptionalPress
-firstClosed surfaces l = pressOf (first (isClosed surfaces) l)
+abbrev pub firstClosed : SurfaceTable → List Binding → OptionalBinding
+firstClosed surfaces l = closedBinding (first (isClosed surfaces) l)
 
 -- 11/12 of that panel
-abbrev pub closedRefusal : SurfaceTable → OptionalPress → Outcome
+abbrev pub closedRefusal : SurfaceTable → OptionalBinding → Outcome
 closedRefusal surfaces None = Accepted
 closedRefusal surfaces (Some e) = surfaceRefusal surfaces (e .surface)
 
--- the kinds before that of the closed panel's press are dropped, and all where no panel is closed
-abbrev pub isReached : OptionalPress → Binding → Bool
+-- the kinds before that of the closed panel's press are dropped, and all where no panel is closed: the Rust goes kind by
+-- kind, looks up the panels of all presses of a kind (`belongs_to_view(*surface)?`) before it removes any of them, and
+-- ends at the first that is closed. With a pointer on a live panel and two keys, one on a closed panel, the pointer is
+-- dropped and both keys stay.
+abbrev pub isReached : OptionalBinding → Binding → Bool
 isReached None e = true
 isReached (Some stop) e = ltb (kindOf e) (kindOf stop)
 
@@ -51,11 +55,11 @@ isReached (Some stop) e = ltb (kindOf e) (kindOf stop)
 abbrev pub isOfView : SurfaceTable → GenerationalHandle → Binding → Bool
 isOfView surfaces view e = sameHandle (descriptorOf surfaces (e .surface) .view) view
 
-abbrev pub isTaken : SurfaceTable → GenerationalHandle → OptionalPress → Binding → Bool
+abbrev pub isTaken : SurfaceTable → GenerationalHandle → OptionalBinding → Binding → Bool
 isTaken surfaces view stop e = isReached stop e && isOfView surfaces view e
 
 -- a refused release lists nothing
-abbrev pub releaseViewTo : PlatformInputRouter → SurfaceTable → GenerationalHandle → OptionalPress → ViewReleased
+abbrev pub releaseViewTo : PlatformInputRouter → SurfaceTable → GenerationalHandle → OptionalBinding → ViewReleased
 releaseViewTo r surfaces view stop =
     record {
       outcome = closedRefusal surfaces stop;

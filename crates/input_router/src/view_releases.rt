@@ -16,7 +16,7 @@ use maps::keys::binding_key;
 use records::error::Outcome;
 use records::surface::SurfaceTable;
 
-pub enum OptionalPress {
+pub enum OptionalBinding {
     None,
     Some(Binding),
 }
@@ -43,7 +43,7 @@ fn is_closed(surfaces: SurfaceTable, press: Binding) -> bool
     !refusal.is_accepted()
 }
 
-fn first_closed(presses: Bindings, surfaces: SurfaceTable) -> OptionalPress
+fn first_closed(presses: Bindings, surfaces: SurfaceTable) -> OptionalBinding
     ensures { λ r. ⌜ r ≡ firstClosed surfaces (entriesOf bindings presses) ⌝ }
 {
     let n = presses.count();
@@ -51,35 +51,35 @@ fn first_closed(presses: Bindings, surfaces: SurfaceTable) -> OptionalPress
     while i < n {
         let press = presses.entries[i];
         if is_closed(surfaces, press) {
-            return OptionalPress::Some(press);
+            return OptionalBinding::Some(press);
         }
         i += 1;
     }
-    OptionalPress::None
+    OptionalBinding::None
 }
 
-fn closed_refusal(surfaces: SurfaceTable, stop: OptionalPress) -> Outcome
+fn closed_refusal(surfaces: SurfaceTable, stop: OptionalBinding) -> Outcome
     ensures { λ r. ⌜ r ≡ closedRefusal surfaces stop ⌝ }
 {
     match stop {
-        OptionalPress::None => Outcome::Accepted,
-        OptionalPress::Some(press) => surfaces.refusal(press.surface),
+        OptionalBinding::None => Outcome::Accepted,
+        OptionalBinding::Some(press) => surfaces.refusal(press.surface),
     }
 }
 
-fn is_reached(stop: OptionalPress, press: Binding) -> bool
+fn is_reached(stop: OptionalBinding, press: Binding) -> bool
     ensures { λ r. ⌜ r ≡ isReached stop press ⌝ }
 {
     match stop {
-        OptionalPress::None => true,
-        OptionalPress::Some(closed) => kind_of(press) < kind_of(closed),
+        OptionalBinding::None => true,
+        OptionalBinding::Some(closed) => kind_of(press) < kind_of(closed),
     }
 }
 
 fn is_taken(
     surfaces: SurfaceTable,
     view: GenerationalHandle,
-    stop: OptionalPress,
+    stop: OptionalBinding,
     press: Binding,
 ) -> bool
     ensures { λ r. ⌜ r ≡ isTaken surfaces view stop press ⌝ }
@@ -92,7 +92,7 @@ fn is_taken(
 fn is_chosen(
     surfaces: SurfaceTable,
     view: GenerationalHandle,
-    stop: OptionalPress,
+    stop: OptionalBinding,
     wants_taken: bool,
     press: Binding,
 ) -> bool
@@ -121,7 +121,7 @@ fn view_part(
     presses: Bindings,
     surfaces: SurfaceTable,
     view: GenerationalHandle,
-    stop: OptionalPress,
+    stop: OptionalBinding,
     wants_taken: bool,
 ) -> Bindings
     ensures { λ r. ⌜ r ≡ packed bindings (keep (λ e. cond «wants_taken» (isTaken surfaces view stop e) (not (isTaken surfaces view stop e))) (entriesOf bindings presses)) ⌝ }

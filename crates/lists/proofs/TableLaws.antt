@@ -2,13 +2,20 @@
 use Prim.Native.Nat.{ℕ, _+_, _≤_, _<_}
 use mathlib.Core.Path.{_≡_, sym, ap, _∙_}
 use mathlib.Core.Bool.{Bool, true, false}
-use mathlib.Core.List.{List, [], _∷_, _++_, append-assoc}
+use mathlib.Core.List.{List, [], _∷_, _++_, foldl, foldl-append, append-assoc, append-nil}
+use native.Mathlib.Numerals.{add-one}
 use native.Mathlib.Omega.{arith}
+use borrow.Author.Tests.{lt-ltb}
 use lib.ListN.{length, take, getD, set, length-append, length-take}
-use lib.Seq.{getD-take}
+use lib.Seq.{getD-take, take-suc}
 use Rattle.lists.specs.Lists.{keep, pad}
-use Rattle.lists.specs.Tables.{Shape, entriesOf, packed, pushed}
+use Rattle.lists.specs.Tables.{Shape, entriesOf, packed, pushed, pushedWithin}
 use Rattle.lists.proofs.ListLaws.{keep-yes, keep-no, keep-room, take-pad, push-pad}
+
+-- a fold over one entry more
+pub fold-next : {E T : Type 0} (f : T → E → T) (t : T) (l : List E) (i : ℕ) (d : E) → i < length l
+    → foldl f t (take (i + 1) l) ≡ f (foldl f t (take i l)) (getD l i d)
+fold-next f t l i d h = rw (add-one, take-suc l i d h) (foldl-append f t (take i l) (getD l i d ∷ []))
 
 module _ {E T : Type 0} (s : Shape E T) where
   pub few : (t : T) → length (s .all t) ≡ s .size → length (entriesOf s t) ≤ s .size
@@ -45,6 +52,17 @@ module _ {E T : Type 0} (s : Shape E T) where
       let n = s .len-make full (length l) in
       λ j. s .make ((ap (λ (x : List E). set x (s .len (s .make full (length l))) e) a ∙ ap (λ (k : ℕ). set full k e) n ∙ push-pad (s .size) (s .blank) l e h) j)
       ((ap (λ (k : ℕ). k + 1) n ∙ sym (length-append l (e ∷ []))) j)
+
+  -- ---- entries put one after the other
+  pub within-packed : (l : List E) (e : E) → length l < s .size → pushedWithin s (packed s l) e ≡ packed s (l ++ (e ∷ []))
+  unfolding pushedWithin
+  within-packed l e h = rw (len-packed l, lt-ltb (length l) (s .size) h) (push-packed l e h)
+
+  pub all-within : (own l : List E) → length own + length l ≤ s .size → foldl (pushedWithin s) (packed s own) l ≡ packed s (own ++ l)
+  all-within own [] h = ap (packed s) (sym (append-nil own))
+  all-within own (e ∷ l) h =
+      let more : length (own ++ (e ∷ [])) + length l ≤ s .size = simp length-append (omega arith) in
+      rw (within-packed own e (omega arith), all-within (own ++ (e ∷ [])) l more, append-assoc)
 
   -- ---- a loop that puts the entries of t that pass p after the list l of a table of the same shape
   module _ (p : E → Bool) (t : T) (i : ℕ) (d : E) (within : i < length (entriesOf s t)) where

@@ -1,7 +1,9 @@
 -- A table: an array of a fixed length, of which the first `len` places hold its entries. One form for every kind of entry.
 use Prim.Native.Nat.{ℕ, _+_}
+use mathlib.Core.Bool.{cond}
 use mathlib.Core.Path.{_≡_}
 use mathlib.Core.List.{List}
+use lib.Dec.{ltb}
 use lib.ListN.{length, take, set}
 use Rattle.lists.specs.Lists.{pad}
 
@@ -27,3 +29,7 @@ module _ {E T : Type 0} (s : Shape E T) where
   -- the table with an entry put at its end
   unfoldable pub pushed : T → E → T
   pushed t e = s .make (set (s .all t) (s .len t) e) (s .len t + 1)
+
+  -- the same where a place is left; a full table stays as it is
+  unfoldable pub pushedWithin : T → E → T
+  pushedWithin t e = cond (ltb (s .len t) (s .size)) (pushed t e) t

@@ -5,6 +5,7 @@ use Prim.Native.Nat.{ℕ}
 use native.Mathlib.Omega.{arith}
 use borrow.Author.Tests.{not-true}
 use lib.Dec.{eqb}
+use Rattle.lists.specs.Numbers.{maxU64}
 use Rattle.lists.proofs.ListLaws.{by-test}
 use Rattle.records.specs.declared.error.CompositionError.{CompositionError}
 use Rattle.records.specs.declared.error.CompositionError.the-variants.{RevisionExhausted}
@@ -41,7 +42,7 @@ pub record Late (changed : CompositionRegistry) (e : CompositionError) (after : 
 
 pub advanced-late : (changed : CompositionRegistry) (e : CompositionError) → advanced changed .outcome ≡ composition.Refused e → Late changed e (advanced changed .registry)
 unfolding advanced
-advanced-late changed e q = by-test (eqb (changed .revision) 18446744073709551615)
+advanced-late changed e q = by-test (eqb (changed .revision) maxU64)
     (λ t. record { last = same-error (simp t at q); stays = simp t })
     (λ t. taken≢refused (simp t at q))
 

@@ -44,9 +44,9 @@ use Rattle.input_router.specs.declared.router.PlatformInputRouter.{PlatformInpu
 use Rattle.input_router.specs.declared.view_releases.ViewReleased.{ViewReleased}
 use Rattle.input_router.specs.Releases.{withoutDevicePresses}
 use Rattle.input_router.specs.Router.{pressesOf}
-use Rattle.input_router.specs.ViewReleases.{pressOf, releaseViewTo, releaseView}
+use Rattle.input_router.specs.ViewReleases.{closedBinding, releaseViewTo, releaseView}
 use Rattle.book.specs.Ids.{isSameDevice, pressDevice}
-use Rattle.refusals.specs.Left.{any, dropPresses, isPressBy, isPressIn, kindOf, closedOwner, isKindBefore, inEveryView, changedFrom, isPrimary, isCaptureBy, losesPrimary, withoutDevice, capturesIn, layersBut, takesFocus, asHandle, isCaptureOn, fieldLeft, withoutPanel, panelOut}
+use Rattle.refusals.specs.Left.{any, dropPresses, isPressBy, isPressIn, kindOf, closedOwner, isKindBefore, inEveryView, changedFrom, isPrimary, primaryDevice, isCaptureBy, losesPrimary, withoutDevice, capturesIn, layersBut, takesFocus, asHandle, isCaptureOn, fieldLeft, withoutPanel, panelOut}
 
 -- ---- presses
 press-by : (d : InputDeviceId) (k : BindingKey) → isSameDevice (pressDevice k) d ≡ deviceSame (bindingKey k) d
@@ -72,7 +72,7 @@ live-is Stale = refl
 module _ (r : CompositionRegistry) (t : PlatformInputRouter) (view : GenerationalHandle) where
   -- the release of a view, by the closed owner that it meets
   abbrev pub releaseTo : Option Binding → ViewReleased
-  releaseTo owner = releaseViewTo t (r .surfaces) view (pressOf owner)
+  releaseTo owner = releaseViewTo t (r .surfaces) view (closedBinding owner)
 
   pub owner-met : releaseView t (r .surfaces) view ≡ releaseTo (closedOwner r t)
   unfolding releaseView
@@ -85,12 +85,10 @@ module _ (r : CompositionRegistry) (t : PlatformInputRouter) (view : Generationa
 
 -- ---- lists by a test
 module _ {E : Type 0} (p : E → Bool) where
-  -- some element of those kept passes
-  any-kept : (q : E → Bool) (l : List E) → isSome (first q (keep p l)) ≡ any (λ e. q e && p e) l
-  any-kept q [] = refl
-  any-kept q (e ∷ l) = by-test (p e)
-      (λ t. by-test (q e) (λ u. simp (t, u)) (λ u. simp (t, u, any-kept q l)))
-      (λ t. by-test (q e) (λ u. simp (t, u, any-kept q l)) (λ u. simp (t, u, any-kept q l)))
+  -- an element that passes is found
+  any-found : (l : List E) → isSome (first p l) ≡ any p l
+  any-found [] = refl
+  any-found (e ∷ l) = by-test (p e) (λ t. simp t) (λ t. simp (t, any-found l))
 
   any-counted : (l : List E) → not (eqb (length (keep p l)) 0) ≡ any p l
   any-counted [] = refl
@@ -137,7 +135,7 @@ module _ (d : InputDeviceId) where
 
   primary-kept : (v : ViewRecord) → hasPrimary (d .value) (d .generation) (v .«pointer_captures») ≡ losesPrimary d v
   primary-kept v =
-      rw (entries-packed captures _) (any-kept (isCaptureBy d) (λ e. isPrimary (e .pointer)) (capturesIn v))
+      ap (λ (b : Bool). b && isSameDevice primaryDevice d) (any-found (λ e. isPrimary (e .pointer)) (capturesIn v))
 
   by-field : (v : ViewRecord) (b : Bool) → cond b (withPointerCapture None (keptMap v)) (keptMap v)
       ≡ withPointerCapture (cond b None (v .«pointer_capture»)) (keptMap v)

@@ -2,6 +2,7 @@
 use mathlib.Core.Path.{_≡_, refl}
 use mathlib.Core.Bool.{Bool, true, false, cond, not, _&&_}
 use lib.Dec.{eqb}
+use Rattle.lists.specs.Numbers.{maxU64}
 use Rattle.geometry.specs.Metrics.{isValidMetrics}
 use Rattle.geometry.specs.Surface.{isValidGeometry}
 use Rattle.handles.specs.Slots.{released}
@@ -58,7 +59,7 @@ panel-late r (panel.CreateView w) e q =
     (then-within (damage r) (then-within (window-at r w) (if-within isOther (eqb (r .views .arena .live) (r .limits .«max_views»)) Capacity refl))) e q
 panel-late r (panel.UpdateViewMetrics a) e q =
     own-counter (damageRefusal r) (refusalIf (not (isValidMetrics (a .update))) InvalidMetrics) (viewRefusal (r .views) (a .view)) (conflictRefusal (currentRevision r (a .view)) (a .revision))
-    (eqb (currentRevision r (a .view)) 18446744073709551615) r (panelChange r (panel.UpdateViewMetrics a))
+    (eqb (currentRevision r (a .view)) maxU64) r (panelChange r (panel.UpdateViewMetrics a))
     (damage r) (if-within isOther (not (isValidMetrics (a .update))) InvalidMetrics refl) (view-at r (a .view)) (conflict (currentRevision r (a .view)) (a .revision)) e q
 panel-late r (panel.CloseView v) e q =
     settled-late (closeViewRefusal r v) r (panelChange r (panel.CloseView v))

@@ -10,6 +10,7 @@ use lib.Dec.{eqb, leb, ltb}
 use lib.ListN.{length, length-reverse}
 use Rattle.lists.specs.Lists.{first}
 use Rattle.lists.specs.Tables.{entriesOf, packed}
+use Rattle.lists.specs.Numbers.{maxU64}
 use Rattle.lists.proofs.BelowLaws.{all-at}
 use Rattle.lists.proofs.ListLaws.{and-left, and-right, length-keep}
 use Rattle.lists.proofs.TableLaws.{len-packed}
@@ -80,7 +81,7 @@ resolution-late r view Shortcut = accepted isLate
 
 advanced-within : (changed : CompositionRegistry) → Within isLate (advanced changed .outcome)
 unfolding advanced
-advanced-within changed = either (λ (x : Changed). Within isLate (x .outcome)) (eqb (changed .revision) 18446744073709551615) _ _ (record { is = refl }) (accepted isLate)
+advanced-within changed = either (λ (x : Changed). Within isLate (x .outcome)) (eqb (changed .revision) maxU64) _ _ (record { is = refl }) (accepted isLate)
 
 settled-within : (o : Outcome) (r changed : CompositionRegistry) → Within isLate o → Within isLate (settled o r changed .outcome)
 settled-within Accepted r changed p = advanced-within changed
@@ -126,7 +127,7 @@ module _ (r : CompositionRegistry) (whole : isSound r ≡ true) (x : PlatformInp
       let own = ownHits event (hitsFor r x) in
       settled-within (arbitrateRefusal r view own (resolution r view event .outcome)) r (withTrace (traceOf (nextRevision (r .revision)) view event own (arbitration r view event (hitsFor r x))) r)
       (then-within (undamaged) (then-within (status-within isLate (viewStatus (r .views) view) InvalidView StaleView refl refl) (then-within (few own (own-few event))
-      (then-within (resolution-late r view event) (if-within isLate (eqb (r .revision) 18446744073709551615) RevisionExhausted refl)))))
+      (then-within (resolution-late r view event) (if-within isLate (eqb (r .revision) maxU64) RevisionExhausted refl)))))
     where
       undamaged : Within isLate (damageRefusal r)
       undamaged = rw whole (accepted isLate)

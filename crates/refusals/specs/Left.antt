@@ -116,9 +116,13 @@ isPrimary p = eqb 1 (p .device) && (eqb 1 (p .«device_generation») && eqb 0 (p
 abbrev pub isCaptureBy : InputDeviceId → Capture → Bool
 isCaptureBy device e = isSameDevice (pointerDevice (e .pointer)) device
 
--- PRIMARY's capture is one of the device's
+-- PRIMARY's device
+abbrev pub primaryDevice : InputDeviceId
+primaryDevice = record { value = 1; generation = 1 }
+
+-- PRIMARY is captured, and it is of the device
 abbrev pub losesPrimary : InputDeviceId → ViewRecord → Bool
-losesPrimary device v = any (λ e. isPrimary (e .pointer) && isCaptureBy device e) (capturesIn v)
+losesPrimary device v = any (λ e. isPrimary (e .pointer)) (capturesIn v) && isSameDevice primaryDevice device
 
 -- the captures of the device go; the single field empties exactly if PRIMARY's is one of them
 abbrev pub withoutDevice : InputDeviceId → ViewRecord → ViewRecord

@@ -3,6 +3,7 @@ use Prim.Native.Nat.{ℕ}
 use mathlib.Core.Bool.{Bool, true, false, cond, not, _&&_, _||_}
 use mathlib.Core.Option.{Option, none, some}
 use lib.Dec.{eqb}
+use Rattle.lists.specs.Numbers.{maxU64}
 use Rattle.handles.specs.declared.GenerationalHandle.{GenerationalHandle}
 use Rattle.maps.specs.declared.bindings.Binding.{Binding}
 use Rattle.composition_state.specs.declared.registry.CompositionRegistry.{CompositionRegistry}
@@ -71,7 +72,7 @@ abbrev pub isOwnEnd : CompositionRegistry → PanelCall → Bool
 isOwnEnd r panel.CreateWindow = false
 isOwnEnd r (panel.CloseWindow window) = false
 isOwnEnd r (panel.CreateView window) = false
-isOwnEnd r (panel.UpdateViewMetrics a) = eqb (currentRevision r (a .view)) 18446744073709551615
+isOwnEnd r (panel.UpdateViewMetrics a) = eqb (currentRevision r (a .view)) maxU64
 isOwnEnd r (panel.CloseView view) = false
 isOwnEnd r (panel.AttachSurface descriptor) = false
 isOwnEnd r (panel.UpdateSurfaceGeometry a) = false

@@ -1,8 +1,9 @@
 -- A device's captures go in every live view, slot after slot, and in the book alike; the lists of a device's and of a view's captures are those of the book.
 use Prim.Native.Nat.{ℕ, zero, suc, _≤_, _<_}
 use mathlib.Core.Path.{_≡_, refl, sym, ap, _∙_, subst}
-use mathlib.Core.Bool.{Bool, true, false, cond, not}
+use mathlib.Core.Bool.{Bool, true, false, cond, not, _&&_}
 use mathlib.Core.List.{List, map}
+use mathlib.Core.Option.{Option}
 use native.Mathlib.Omega.{arith}
 use borrow.Author.Tests.{eqb-true}
 use lib.Dec.{eqb}
@@ -22,6 +23,7 @@ use Rattle.handles.proofs.LookupLaws.{live-facts}
 use Rattle.handles.proofs.SlotLaws.{by-same}
 use Rattle.maps.specs.Captures.{captures}
 use Rattle.maps.specs.MapTables.{isSome, retained}
+use Rattle.maps.specs.declared.captures.Capture.{Capture}
 use Rattle.maps.specs.declared.captures.PointerCaptures.{PointerCaptures}
 use Rattle.maps.specs.declared.keys.InputDeviceId.{InputDeviceId}
 use Rattle.records.specs.declared.error.Outcome.the-variants.{Accepted}
@@ -101,7 +103,7 @@ module _ (value generation : ℕ) where
     where
       kept : (h : GenerationalHandle) → losesPrimary value generation (v .«pointer_captures») ≡ false → HasPrimary h (v .«pointer_captures») → HasPrimary h (left (v .«pointer_captures»))
       kept h s y = by-test (isOfDevice value generation (capture primary h))
-          (λ t. clash (ap isSome (found-kept (v .«pointer_captures») x (isOfDevice value generation) h y) ∙ rw t) s)
+          (λ t. clash (ap (λ (o : Option Capture). isSome o && isOfDevice value generation (capture primary h)) y ∙ t) s)
           (λ t. found-kept (v .«pointer_captures») x (λ e. not (isOfDevice value generation e)) h y ∙ rw t)
 
   -- ---- the views of the slots passed are without them

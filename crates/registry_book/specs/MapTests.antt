@@ -27,7 +27,8 @@ isOfMapDevice d x = deviceSame (captureKey (x .capture)) d
 abbrev pub isMapEntry : CompositionPointerId → GenerationalHandle → Held → Bool
 isMapEntry p h x = keySame (pointerKey p) (captureKey (x .capture)) && isHeldOnPanel h x
 
--- the panel gets the pointer in its own view
+-- the panel gets the pointer in its own view. A panel that no attach has noted has no view, and nothing is kept: after
+-- an accepted capture this is never met, since the captured panel is live and was attached in this list of calls
 abbrev pub capturedIn : Option GenerationalHandle → CompositionPointerId → GenerationalHandle → Book → Book
 capturedIn none p h b = b
 capturedIn (some view) p h b = withCaptures (insert mapPlace placeLt (captureIn view p h) (b .captures)) b

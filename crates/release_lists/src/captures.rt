@@ -1,9 +1,9 @@
 // The list of captures that a device's loss ends.
 ghost use mathlib.Core.Path.{_≡_};
-ghost use mathlib.Core.List.{[], _++_};
-ghost use Prim.Native.Nat.{_+_, _≤_, _<_};
+ghost use mathlib.Core.List.{[], foldl};
+ghost use Prim.Native.Nat.{_≤_};
 ghost use lib.ListN.{length};
-ghost use Rattle.lists.specs.Tables.{entriesOf, packed, pushed};
+ghost use Rattle.lists.specs.Tables.{entriesOf, packed, pushedWithin};
 ghost use Rattle.maps.specs.Captures.{captures};
 ghost use Rattle.release_lists.specs.Captures.{captureList};
 use handles::GenerationalHandle;
@@ -48,22 +48,24 @@ impl CaptureList {
         512
     }
 
+    // The list with one capture more, while there is a place.
     fn push(self, entry: Capture) -> Self
-        requires { ⌜ self .len < 512 ⌝ }
-        ensures { λ r. ⌜ r ≡ pushed captureList self entry ⌝ }
+        ensures { λ r. ⌜ r ≡ pushedWithin captureList self entry ⌝ }
     {
         let at = self.len;
-        let mut next = self;
-        next.items[at] = entry;
-        next.len = at + 1;
-        next
+        if at < 512 {
+            let mut next = self;
+            next.items[at] = entry;
+            next.len = at + 1;
+            return next;
+        }
+        self
     }
 
-    // The list with the entries of a map put after its own; a map has at most 32.
+    // The list with the entries of a map put after its own, one after the other; a map has at most 32.
     pub fn extend(self, from: PointerCaptures) -> Self
-        requires { ⌜ self ≡ packed captureList (entriesOf captureList self) ⌝ }
-        requires { ⌜ length (entriesOf captureList self) + 32 ≤ 512 ⌝ }
-        ensures { λ r. ⌜ (r ≡ packed captureList (entriesOf captureList self ++ entriesOf captures from)) × (length (entriesOf captures from) ≤ 32) ⌝ }
+        ensures { λ r. ⌜ r ≡ foldl (pushedWithin captureList) self (entriesOf captures from) ⌝ }
+        ensures { λ _. ⌜ length (entriesOf captures from) ≤ 32 ⌝ }
     {
         let mut next = self;
         let n = from.count();

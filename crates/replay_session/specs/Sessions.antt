@@ -3,6 +3,7 @@ use Prim.Native.Nat.{ℕ, _+_}
 use mathlib.Core.Bool.{Bool, cond}
 use mathlib.Core.List.{List}
 use lib.Dec.{ltb}
+use Rattle.lists.specs.Numbers.{maxU64}
 use Rattle.answer_columns.specs.Pieces.{putAll}
 use Rattle.answer_line.specs.Line.{answerTaken, plainPieces, noCallPieces, stateTaken, routerStateTaken, endPieces}
 use Rattle.calls.specs.declared.call.Call.{Call}
@@ -19,7 +20,7 @@ use Rattle.replay_session.specs.Starts.{startedRegistry, startedRouter}
 
 -- the count of calls stays at its end
 abbrev pub nextCall : ℕ → ℕ
-nextCall n = cond (ltb n 18446744073709551615) (n + 1) n
+nextCall n = cond (ltb n maxU64) (n + 1) n
 
 -- the end of the line is put, and the session goes on with the counter
 unfoldable pub finished : ℕ → Bool → Counter → List ℕ × ℕ → List ℕ × Answered

@@ -16,7 +16,7 @@ use script_calls::read::read_call;
 fn next_call(calls: u64) -> u64
     ensures { λ r. ⌜ r ≡ nextCall calls ⌝ }
 {
-    if calls < 18446744073709551615 {
+    if calls < u64::MAX {
         return calls + 1;
     }
     calls

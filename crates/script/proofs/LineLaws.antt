@@ -83,8 +83,9 @@ module _ (l : List ℕ) (e : ℕ) (end : e ≡ 0 + length (upTo 32 l)) where
   pub verb-within : e ≤ length l
   verb-within = word-within l 0 e (omega arith) end
 
+  pub verb-is : take e l ≡ upTo 32 l
+  verb-is = ap (λ (n : ℕ). take n l) (end ∙ zero-add _) ∙ upTo-take 32 l
+
   pub line-is : length l ≤ 4096 → gathered (verbNamed (take e l)) [] (wordsFrom l (e + 1)) ≡ lineOf l
   unfolding lineOf
-  line-is h =
-      let verb : take e l ≡ upTo 32 l = ap (λ (n : ℕ). take n l) (end ∙ zero-add _) ∙ upTo-take 32 l in
-      rw (le-leb _ _ h, verb, rest-words l 0 e (omega arith) end)
+  line-is h = rw (le-leb _ _ h, verb-is, rest-words l 0 e (omega arith) end)

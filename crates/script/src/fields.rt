@@ -5,6 +5,7 @@ ghost use mathlib.Core.Path.{_≡_};
 ghost use Prim.Native.Nat.{_≤_};
 ghost use lib.Dec.{eqb};
 ghost use lib.ListN.{getD};
+ghost use Rattle.lists.specs.Numbers.{maxU64};
 ghost use Rattle.script.specs.Lines.{zeroNumber};
 ghost use Rattle.script.specs.Ranges.{unsignedOf, isWithin, signedOf, isWithinSigned};
 
@@ -86,9 +87,9 @@ pub fn as_at_most(n: Number, most: u64) -> FieldU64
 
 // The other ranges: by the number's own type.
 pub fn as_u64(n: Number) -> FieldU64
-    ensures { λ r. ⌜ r ≡ record { value = unsignedOf 18446744073709551615 n; fits = isWithin 18446744073709551615 n } ⌝ }
+    ensures { λ r. ⌜ r ≡ record { value = unsignedOf maxU64 n; fits = isWithin maxU64 n } ⌝ }
 {
-    as_at_most(n, 18446744073709551615)
+    as_at_most(n, u64::MAX)
 }
 
 pub fn as_u32(n: Number) -> FieldU32

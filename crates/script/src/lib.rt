@@ -1,4 +1,5 @@
 // Lines of a call script: a verb, and numbers each after one space.
+pub mod fault;
 pub mod fields;
 pub mod line;
 pub mod number;

@@ -47,7 +47,7 @@ fn push_digit(m: Magnitude, b: u8) -> Magnitude
         return no_magnitude();
     }
     let shifted = m.value * 10;
-    if shifted > 18446744073709551615 - digit {
+    if shifted > u64::MAX - digit {
         return no_magnitude();
     }
     Magnitude {

@@ -3,6 +3,7 @@ use Prim.Native.Nat.{ℕ, _+_}
 use mathlib.Core.Bool.{Bool, true, false, _&&_}
 use lib.Dec.{eqb}
 use lib.ListN.{getD}
+use Rattle.lists.specs.Numbers.{maxU64}
 use Rattle.handles.specs.Handles.{handleOf}
 use Rattle.handles.specs.declared.GenerationalHandle.{GenerationalHandle}
 use Rattle.handles.specs.declared.OptionalHandle.the-variants.{None, Some}
@@ -30,7 +31,7 @@ abbrev pub u32At : Fields → ℕ → FieldU32
 u32At fs i = record { value = unsignedOf 4294967295 (numberAt fs i); fits = isWithin 4294967295 (numberAt fs i) }
 
 abbrev pub u64At : Fields → ℕ → FieldU64
-u64At fs i = record { value = unsignedOf 18446744073709551615 (numberAt fs i); fits = isWithin 18446744073709551615 (numberAt fs i) }
+u64At fs i = record { value = unsignedOf maxU64 (numberAt fs i); fits = isWithin maxU64 (numberAt fs i) }
 
 -- H: index, generation
 abbrev pub handleAt : Fields → ℕ → HandleField

@@ -6,6 +6,7 @@ use mathlib.Core.List.{List, _++_}
 use native.Mathlib.Omega.{arith}
 use borrow.Author.Tests.{ltb-false, not-false}
 use Rattle.lists.specs.Tables.{packed}
+use Rattle.lists.specs.Numbers.{maxU64}
 use Rattle.lists.proofs.ListLaws.{and-left, and-right}
 use Rattle.handles.specs.Slots.{noneExhausted, handlesTable, handlesBelow, liveHandles}
 use Rattle.handles.specs.declared.arena.Arena.{Arena}
@@ -49,7 +50,7 @@ module _ (r : CompositionRegistry) (u : Undamaged r) (a : shutdownRefusal r ≡ 
           windows = fresh-when (r .windows) _ (p .windows) (and-left (noneExhausted (r .windows)) _ all);
           views = fresh-when (r .views .arena) _ (p .views) (and-left (noneExhausted (r .views .arena)) _ two);
           surfaces = fresh-when (r .surfaces .arena) _ (p .surfaces) (and-right (noneExhausted (r .views .arena)) _ two);
-          room = ltb-false 18446744073709551615 (r .revision + r .surfaces .arena .live + r .views .arena .live + r .windows .live) within;
+          room = ltb-false maxU64 (r .revision + r .surfaces .arena .live + r .views .arena .live + r .windows .live) within;
         };
         few = omega (arith, sound (r .surfaces .arena) _ (p .surfaces .formed) .within-limit .live .table);
       }

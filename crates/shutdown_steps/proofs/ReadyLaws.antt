@@ -8,6 +8,7 @@ use borrow.Author.Tests.{ne-eqb}
 use lib.ListN.{getD, set}
 use lib.Seq.{getD-set-same}
 use Rattle.lists.specs.Tables.{entriesOf}
+use Rattle.lists.specs.Numbers.{maxU64}
 use Rattle.lists.proofs.BelowLaws.{all-of}
 use Rattle.lists.proofs.ListLaws.{by-test}
 use Rattle.handles.specs.Slots.{slotAt, lookupOf, released}
@@ -35,16 +36,12 @@ use Rattle.composition_soundness.proofs.WindowLaws.{views-few, all-slots, view-
 use Rattle.composition_soundness.proofs.CloseLaws.{panel-closed}
 use Rattle.shutdown_steps.proofs.SlotLaws.{Fresh, Released-at, release}
 
--- the last revision
-abbrev pub last : ℕ
-last = 18446744073709551615
-
 pub record Ready (c : CompositionRegistry) : Type 0 where
   pub parts : Parts c
   pub windows : Fresh (c .windows)
   pub views : Fresh (c .views .arena)
   pub surfaces : Fresh (c .surfaces .arena)
-  pub room : c .revision + c .surfaces .arena .live + c .views .arena .live + c .windows .live ≤ last
+  pub room : c .revision + c .surfaces .arena .live + c .views .arena .live + c .windows .live ≤ maxU64
 
 -- ---- a change is kept where the revision can rise
 abbrev pub raisedTo : CompositionRegistry → CompositionRegistry
@@ -60,17 +57,17 @@ viewNext view c = raisedTo (withViews (viewsWith (released (c .views .arena) vie
 abbrev pub windowNext : GenerationalHandle → CompositionRegistry → CompositionRegistry
 windowNext window c = raisedTo (withWindows (released (c .windows) window .arena) c)
 
-advanced-on : (c : CompositionRegistry) → c .revision < last → advanced c ≡ answered Accepted (raisedTo c)
+advanced-on : (c : CompositionRegistry) → c .revision < maxU64 → advanced c ≡ answered Accepted (raisedTo c)
 unfolding advanced
-advanced-on c l = rw (ne-eqb (c .revision) last (below l))
+advanced-on c l = rw (ne-eqb (c .revision) maxU64 (below l))
   where
-    below : {n : ℕ} → n < last → n ≡ last → ⊥
+    below : {n : ℕ} → n < maxU64 → n ≡ maxU64 → ⊥
     below {n} l e = omega arith
 
-settled-on : (o : Outcome) (r c : CompositionRegistry) → o ≡ Accepted → c .revision < last → settled o r c ≡ answered Accepted (raisedTo c)
+settled-on : (o : Outcome) (r c : CompositionRegistry) → o ≡ Accepted → c .revision < maxU64 → settled o r c ≡ answered Accepted (raisedTo c)
 settled-on o r c e l = ap (λ (x : Outcome). settled x r c) e ∙ advanced-on c l
 
-raised-parts : (c : CompositionRegistry) → c .revision < last → Parts c → Parts (raisedTo c)
+raised-parts : (c : CompositionRegistry) → c .revision < maxU64 → Parts c → Parts (raisedTo c)
 raised-parts c l p = subst (λ (x : Changed). Parts (x .registry)) (advanced-on c l) (revised c p)
 
 not-damaged : (c : CompositionRegistry) → Parts c → damageRefusal c ≡ Accepted
@@ -87,7 +84,7 @@ module _ (c : CompositionRegistry) (y : Ready c) (view h : GenerationalHandle) (
   pub panel-release : Released-at (c .surfaces .arena) h
   panel-release = release (c .surfaces .arena) _ (y .parts .surfaces) (y .surfaces) h live
 
-  panel-room : c .revision < last
+  panel-room : c .revision < maxU64
   panel-room = omega (arith, y .room, panel-release .live)
 
   panel-checks : closeRefusal c h ≡ Accepted
@@ -150,7 +147,7 @@ module _ (c : CompositionRegistry) (y : Ready c) (view : GenerationalHandle) (st
   pub view-release : Released-at (c .views .arena) view
   view-release = release (c .views .arena) _ (y .parts .views) (y .views) view stands
 
-  view-room : c .revision < last
+  view-room : c .revision < maxU64
   view-room = omega (arith, y .room, view-release .live)
 
   pub view-closes : entriesOf layers (viewAt (c .views) view .surfaces) ≡ [] → closeView c view ≡ answered Accepted (viewNext view c)
@@ -176,7 +173,7 @@ module _ (c : CompositionRegistry) (y : Ready c) (none : (g : GenerationalHandle
   pub window-release : Released-at (c .windows) window
   window-release = release (c .windows) _ (y .parts .windows) (y .windows) window stands
 
-  window-room : c .revision < last
+  window-room : c .revision < maxU64
   window-room = omega (arith, y .room, window-release .live)
 
   none-in : (i : ℕ) → i < viewSlots (c .views) → not (standsIn (c .views) window i) ≡ true

@@ -1,6 +1,6 @@
 -- `push_trace` meets its contract: after each turn the traces from the first kept on stand in the new table.
 use native.Mathlib.Omega.{arith}
-use Prim.Native.Nat.{_≤_, _<_, _-_}
+use Prim.Native.Nat.{_≤_, _<_, _+_, _-_}
 use mathlib.Core.Path.{_≡_, sym, ap, _∙_}
 use mathlib.Core.List.{[]}
 use lib.ListN.{length}
@@ -9,14 +9,14 @@ use Rattle.lists.proofs.TableLaws.{entry, len-packed}
 use Rattle.records.specs.declared.trace.Traces.{Traces}
 use Rattle.records.specs.Traces.{traces as stateTraces}
 use Rattle.records.proofs.TraceLaws.{few}
-use Rattle.composition_arbitration.specs.Trace.{keptBefore}
-use Rattle.composition_arbitration.proofs.TraceLaws.{few-kept, part, part-none, turn, done}
+use Rattle.composition_arbitration.specs.Trace.{keptTraces}
+use Rattle.composition_arbitration.proofs.TraceLaws.{some-kept, few-kept, part, part-none, turn, done}
 use borrow.Author.Needs.{needs}
 use Rattle.composition_arbitration.proofs.trace.push_trace.Statement.{statement}
 use Rattle.composition_arbitration.proofs.trace.push_trace.Tie as tie
 
 abbrev Inv-loop : tie.InvT-loop
-Inv-loop limit trace traces n from next₀ i₀ next i = (from ≤ i) × (i ≤ n) × (n ≤ 32) × (from ≡ n - keptBefore limit) × (next ≡ packed stateTraces (part (entriesOf stateTraces traces) from i)) × (n - from ≤ 31) × (next .len ≤ i - from)
+Inv-loop limit trace traces n from next₀ i₀ next i = (from ≤ i) × (i ≤ n) × (n ≤ 32) × (from ≡ (n + 1) - keptTraces limit) × (next ≡ packed stateTraces (part (entriesOf stateTraces traces) from i)) × (n - from ≤ 31) × (next .len ≤ i - from)
 
 abbrev μ-loop : tie.MeasureT-loop
 μ-loop limit trace traces n from next₀ i₀ next i = n - i
@@ -24,8 +24,11 @@ abbrev μ-loop : tie.MeasureT-loop
 count-requires : tie.Need-count-requires Inv-loop μ-loop
 count-requires c κs = search needs
 
-kept-before-requires : tie.Need-kept-before-requires Inv-loop μ-loop
-kept-before-requires c κs = search needs
+add-first-kept : tie.Need-add-first-kept Inv-loop μ-loop
+add-first-kept c = omega (arith, few (c .before .args .t1) (c .before .good .0), c .count .ensures)
+
+kept-traces-requires : tie.Need-kept-traces-requires Inv-loop μ-loop
+kept-traces-requires c κs = search needs
 
 first-kept-requires : tie.Need-first-kept-requires Inv-loop μ-loop
 first-kept-requires c κs = search needs
@@ -38,8 +41,9 @@ loop-holds c =
     let a = c .before .before .before .before .args in
     let kept = c .before .first-kept .ensures in
     let f = c .before .first-kept .result in
-    let is : f ≡ c .before .before .before .count .result - keptBefore (a .limit) = kept ∙ rw (c .before .before .kept-before .ensures) in
-    (omega arith, omega (arith, kept), omega (arith, few (a .t1) (c .before .before .before .before .good .0), c .before .before .before .count .ensures), is, c .new .ensures ∙ ap (packed stateTraces) (sym (part-none (entriesOf stateTraces (a .t1)) f)), omega (arith, is, few-kept (a .limit)), omega (arith, ap (λ (t : Traces). t .len) (c .new .ensures) ∙ len-packed stateTraces []))
+    let n = c .before .before .before .count .result in
+    let is : f ≡ (n + 1) - keptTraces (a .limit) = kept ∙ rw (c .before .before .kept-traces .ensures) in
+    (omega arith, omega (arith, is, some-kept (a .limit)), omega (arith, few (a .t1) (c .before .before .before .before .good .0), c .before .before .before .count .ensures), is, c .new .ensures ∙ ap (packed stateTraces) (sym (part-none (entriesOf stateTraces (a .t1)) f)), omega (arith, is, few-kept (a .limit)), omega (arith, ap (λ (t : Traces). t .len) (c .new .ensures) ∙ len-packed stateTraces []))
 
 mul-old : tie.Need-mul-old Inv-loop μ-loop
 mul-old c = omega arith
@@ -95,7 +99,8 @@ push-trace-spec =
     Inv-loop
     μ-loop
     count-requires
-    kept-before-requires
+    add-first-kept
+    kept-traces-requires
     first-kept-requires
     new-requires
     loop-holds

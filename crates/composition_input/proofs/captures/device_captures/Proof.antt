@@ -10,7 +10,7 @@ use Rattle.lists.proofs.TableLaws.{entries-packed}
 use Rattle.maps.specs.Captures.{captures}
 use Rattle.release_lists.specs.Captures.{captureList}
 use Rattle.composition_input.specs.Captures.{takenAt, deviceCaptures}
-use Rattle.composition_input.proofs.CaptureListLaws.{gathered, gathered-fits, gathered-turn, entries-are, packed-self, slots-few}
+use Rattle.composition_input.proofs.CaptureListLaws.{gathered, gathered-fits, gathered-turn, slots-few}
 use Rattle.composition_input.proofs.captures.device_captures.Statement.{statement}
 use Rattle.composition_input.proofs.captures.device_captures.Tie as tie
 
@@ -33,8 +33,7 @@ taken-at-requires : tie.Need-taken-at-requires Inv-loop μ-loop
 taken-at-requires c κs = omega arith
 
 extend-requires : tie.Need-extend-requires Inv-loop μ-loop
-extend-requires c κs = let l = c .before .before .loop in
-    (packed-self (l .list) _ (l .inv .2), omega (arith, ap length (entries-are (l .list) _ (l .inv .2))))
+extend-requires c κs = search needs
 
 add-i : tie.Need-add-i Inv-loop μ-loop
 add-i c = omega arith
@@ -48,7 +47,7 @@ loop-again c = let a = c .before .before .before .before .before .before .args i
     let few = rw (c .before .taken-at .ensures, entries-packed captures (takenAt (a .views) (a .device) (a .generation) (l .i))) at (c .extend .ensures .1) in (
       omega arith,
       omega arith,
-      gathered-turn (takenAt (a .views) (a .device) (a .generation)) (l .i) (l .list) _ _ (l .inv .2) (c .before .taken-at .ensures) (c .extend .ensures .0),
+      gathered-turn (takenAt (a .views) (a .device) (a .generation)) (l .i) (l .list) _ _ (l .inv .2) (c .before .taken-at .ensures) (omega (arith, few)) (c .extend .ensures .0),
       gathered-fits (takenAt (a .views) (a .device) (a .generation)) (l .i) (l .inv .3) few,
     )
 

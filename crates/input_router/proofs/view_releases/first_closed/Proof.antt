@@ -6,7 +6,7 @@ use Rattle.lists.specs.Tables.{entriesOf}
 use Rattle.lists.proofs.LoopLaws.{Searched, search-here, search-next, search-end}
 use Rattle.maps.specs.Bindings.{bindings}
 use Rattle.maps.proofs.BindingLaws.{few}
-use Rattle.input_router.specs.ViewReleases.{isClosed, pressOf}
+use Rattle.input_router.specs.ViewReleases.{isClosed, closedBinding}
 use borrow.Author.Needs.{needs}
 use native.Mathlib.Omega.{arith}
 use Rattle.input_router.proofs.view_releases.first_closed.Statement.{statement}
@@ -38,7 +38,7 @@ returns c =
     let l = c .before .before .before .before .loop in
     let a = c .before .before .before .before .before .before .args in
     let within : l .i < length (entriesOf bindings (a .t1)) = omega arith in
-    sym (ap pressOf (search-here bindings (a .t1) (isClosed (a .surfaces)) (l .i) _ within (l .inv .2) (sym (c .before .is-closed .ensures) ∙ c .if1 .taken)))
+    sym (ap closedBinding (search-here bindings (a .t1) (isClosed (a .surfaces)) (l .i) _ within (l .inv .2) (sym (c .before .is-closed .ensures) ∙ c .if1 .taken)))
 
 add-i : tie.Need-add-i Inv-loop μ-loop
 add-i c = omega arith
@@ -56,7 +56,7 @@ loop-again c =
 returns-2 : tie.Need-returns-2 Inv-loop μ-loop
 returns-2 c =
     let a = c .before .before .before .args in
-    sym (ap pressOf (search-end bindings (a .t1) (isClosed (a .surfaces)) (c .before .loop .i) (c .before .loop .inv .2) (omega arith)))
+    sym (ap closedBinding (search-end bindings (a .t1) (isClosed (a .surfaces)) (c .before .loop .i) (c .before .loop .inv .2) (omega arith)))
 
 pub first-closed-spec : {M : Type 1} → statement M
 first-closed-spec =

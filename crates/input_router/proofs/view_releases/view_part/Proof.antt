@@ -16,14 +16,14 @@ use Rattle.maps.specs.declared.bindings.Binding.{Binding}
 use Rattle.maps.specs.declared.bindings.Bindings.{Bindings}
 use Rattle.maps.proofs.BindingLaws.{few}
 use Rattle.records.specs.declared.surface.SurfaceTable.{SurfaceTable}
-use Rattle.input_router.specs.declared.view_releases.OptionalPress.{OptionalPress}
+use Rattle.input_router.specs.declared.view_releases.OptionalBinding.{OptionalBinding}
 use Rattle.input_router.specs.ViewReleases.{isTaken}
 use borrow.Author.Needs.{needs}
 use native.Mathlib.Omega.{arith}
 use Rattle.input_router.proofs.view_releases.view_part.Statement.{statement}
 use Rattle.input_router.proofs.view_releases.view_part.Tie as tie
 
-abbrev chosen : SurfaceTable → GenerationalHandle → OptionalPress → Bool → Binding → Bool
+abbrev chosen : SurfaceTable → GenerationalHandle → OptionalBinding → Bool → Binding → Bool
 chosen surfaces view stop wants e = cond wants (isTaken surfaces view stop e) (not (isTaken surfaces view stop e))
 
 abbrev Inv-loop : tie.InvT-loop
