@@ -12,9 +12,9 @@ use Rattle.records.specs.Traces.{deliveries}
 use Rattle.release_lists.specs.Captures.{captureList}
 use Rattle.input_events.specs.RouterErrors.{routerNumberOf}
 use Rattle.release_lists.specs.Releases.{releases}
-use Rattle.answer.specs.Put.{over, put}
-use Rattle.answer.proofs.PutLaws.{put-yes}
-use Rattle.answer.proofs.ClaimLaws as text
+use Rattle.answer_text.specs.Put.{over, put}
+use Rattle.answer_text.proofs.PutLaws.{put-yes}
+use Rattle.answer_text.proofs.ClaimLaws as text
 use Rattle.counter.specs.declared.answer.Answer.{Answer}
 use Rattle.answer_columns.specs.Pieces.{putAll, spacePieces, nonePieces, listPieces}
 use Rattle.answer_columns.specs.Columns.{numberPieces, releasesColumn, columnPieces}

@@ -4,7 +4,7 @@ use mathlib.Core.Bool.{false}
 use mathlib.Core.List.{List, _++_, flatten}
 use mathlib.Core.Path.{_≡_}
 use lib.ListN.{length}
-use Rattle.answer.specs.Put.{put}
+use Rattle.answer_text.specs.Put.{put}
 use Rattle.input_events.specs.RouterErrors.{routerNumberOf, isRouterAccepted}
 use Rattle.calls.specs.declared.call.Call.{Call}
 use Rattle.calls.specs.declared.call.Lists.{Lists}

@@ -3,8 +3,8 @@ use Prim.Native.Nat.{ℕ}
 use mathlib.Core.Bool.{cond}
 use mathlib.Core.List.{List, [], _∷_, _++_}
 use lib.Dec.{eqb}
-use Rattle.answer.specs.Decimal.{decimal}
-use Rattle.answer.specs.Put.{put}
+use Rattle.answer_text.specs.Decimal.{decimal}
+use Rattle.answer_text.specs.Put.{put}
 use Rattle.handles.specs.declared.GenerationalHandle.{GenerationalHandle}
 use Rattle.handles.specs.declared.OptionalHandle.{OptionalHandle}
 use Rattle.handles.specs.declared.OptionalHandle.the-variants.{None, Some}

@@ -9,9 +9,9 @@ use native.Mathlib.Omega.{arith}
 use borrow.Author.Tests.{le-leb}
 use lib.ListN.{length, drop, length-append}
 use Rattle.lists.proofs.ListLaws.{map-append}
-use Rattle.answer.specs.Put.{put}
-use Rattle.answer.specs.declared.digest.Digest.{Digest}
-use Rattle.answer.proofs.PutLaws.{put-yes}
+use Rattle.answer_text.specs.Put.{put}
+use Rattle.answer_text.specs.declared.digest.Digest.{Digest}
+use Rattle.answer_text.proofs.PutLaws.{put-yes}
 use Rattle.answer_numbers.specs.declared.sink.SinkKind.the-variants.{Words}
 use Rattle.answer_numbers.specs.Numbers.{Number, dumpedNumber, lowBytes, word, numberTaken, numbersTaken}
 use Rattle.answer_more.specs.Place.{placeOf, placed, morePlaced}

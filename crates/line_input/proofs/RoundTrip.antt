@@ -12,8 +12,8 @@ use Rattle.lists.proofs.ListLaws.{by-test}
 use Rattle.script.proofs.NumberLaws.{push-more}
 use Rattle.script.specs.Numbers.{pushDigit, digitsOf, isLed, magnitudeOf, numberOf}
 use Rattle.script.specs.declared.number.Magnitude.{Magnitude}
-use Rattle.answer.proofs.DecimalLaws.{decimal-one, decimal-more, length-one, length-more, shorter}
-use Rattle.answer.specs.Decimal.{decimal}
+use Rattle.answer_text.proofs.DecimalLaws.{decimal-one, decimal-more, length-one, length-more, shorter}
+use Rattle.answer_text.specs.Decimal.{decimal}
 use Rattle.line_input.specs.Claims.{RoundTripClaims}
 
 abbrev whole : ℕ → Magnitude
