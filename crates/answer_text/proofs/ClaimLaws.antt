@@ -1,5 +1,5 @@
 -- The claims of text that is put: two pieces by the laws of a copy, and numbers by reading their digits back.
-use Prim.Native.Nat.{ℕ, zero, suc, _+_, _*_, _-_, _/_, _≤_, _<_}
+use Prim.Native.Nat.{ℕ, zero, suc, _+_, _*_, _-_, _/_, _≤_}
 use mathlib.Core.List.{List, _++_, append-assoc, foldl, foldl-append}
 use mathlib.Core.Path.{_≡_, sym, ap, _∙_}
 use native.Mathlib.Nat.{le-refl, add-assoc}
@@ -7,12 +7,12 @@ use native.Mathlib.Omega.{arith}
 use lib.Dec.{ltb}
 use lib.ListN.{length, take, drop, length-append}
 use lib.Seq.{paste, length-paste, take-paste, drop-paste, take-length, drop-drop}
-use borrow.Author.Tests.{le-leb, ltb-true, ltb-false}
+use borrow.Author.Tests.{le-leb}
 use Rattle.lists.proofs.ListLaws.{by-test}
-use Rattle.answer_text.specs.Decimal.{decimal}
+use Rattle.answer_text.specs.Decimal.{decimalIn, decimal}
 use Rattle.answer_text.specs.Put.{over, put}
 use Rattle.answer_text.specs.Claims.{TextClaims}
-use Rattle.answer_text.proofs.DecimalLaws.{decimal-one, decimal-more, shorter}
+use Rattle.answer_text.proofs.DecimalLaws.{decimal-short, decimal-all}
 use Rattle.answer_text.proofs.PutLaws.{put-yes}
 
 -- ---- two pieces
@@ -54,23 +54,20 @@ module _ (a b buf : List ℕ) (at : ℕ) (room : at + (length a + length b) ≤ 
 valueOf : List ℕ → ℕ
 valueOf l = foldl (λ (n d : ℕ). n * 10 + (d - 48)) 0 l
 
-value-one : (n : ℕ) → n < 10 → valueOf (decimal n) ≡ n
-unfolding valueOf
-value-one n h = rw (decimal-one n h) (omega arith)
-
-value-within : (f n : ℕ) → n ≤ f → valueOf (decimal n) ≡ n
-unfolding valueOf
-value-within zero n h = value-one n (small n h)
-  where
-    small : (n : ℕ) → n ≤ 0 → n < 10
-    small n h = omega arith
-value-within (suc f) n h =
+-- whatever the steps: what is left after them stands as one digit
+value-is : (f n : ℕ) → valueOf (decimalIn f n) ≡ n
+unfolding valueOf decimalIn
+value-is zero n = omega arith
+value-is (suc f) n =
     by-test (ltb n 10)
-    (λ t. value-one n (ltb-true n 10 t))
-    (λ t. rw (decimal-more n (ltb-false n 10 t), foldl-append, value-within f (n / 10) (shorter n f h (ltb-false n 10 t))) (omega arith))
+    (λ t. rw t (omega arith))
+    (λ t. rw (t, foldl-append, value-is f (n / 10)) (omega arith))
 
 pub claims : TextClaims
+unfolding decimal
 claims = record {
   put-both = put-both;
-  decimal-same = λ m n e. sym (value-within m m (le-refl m)) ∙ ap valueOf e ∙ value-within n n (le-refl n);
+  decimal-same = λ m n e. sym (value-is 19 m) ∙ ap valueOf e ∙ value-is 19 n;
+  decimal-short = decimal-short;
+  decimal-all = decimal-all;
 }

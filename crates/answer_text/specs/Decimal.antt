@@ -9,9 +9,9 @@ unfoldable pub decimalIn : ℕ → ℕ → List ℕ
 decimalIn zero n = (48 + n) ∷ []
 decimalIn (suc f) n = cond (ltb n 10) ((48 + n) ∷ []) (decimalIn f (n / 10) ++ ((48 + n % 10) ∷ []))
 
--- the digits of n: n steps are always enough
+-- the digits of n: a number of 64 bits has at most 20, so 19 steps are always enough
 unfoldable pub decimal : ℕ → List ℕ
-decimal n = decimalIn n n
+decimal n = decimalIn 19 n
 
 -- the last k digits of n
 unfoldable pub lastDigits : ℕ → ℕ → List ℕ

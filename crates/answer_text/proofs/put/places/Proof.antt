@@ -24,7 +24,7 @@ loop-less : tie.Need-loop-less Inv-loop μ-loop
 loop-less c = omega arith
 
 loop-again : tie.Need-loop-again Inv-loop μ-loop
-loop-again c = omega (arith, length-more (c .before .loop .rest) (c .loop-test .taken))
+loop-again c = omega (arith, length-more (c .before .loop .rest) (omega arith) (c .loop-test .taken))
 
 returns : tie.Need-returns Inv-loop μ-loop
 returns c = omega (arith, length-one (c .before .loop .rest) (c .loop-test .left))

@@ -1,5 +1,5 @@
 -- `put_u64` meets its contract: the last digits, as many as the number has, are its decimal text.
-use Prim.Native.Nat.{ℕ, _+_}
+use Prim.Native.Nat.{ℕ, _+_, _^_, _<_}
 use mathlib.Core.Bool.{Bool, true}
 use mathlib.Core.List.{List, _++_}
 use mathlib.Core.Path.{_≡_, sym, _∙_}
@@ -19,11 +19,11 @@ use Rattle.answer_text.proofs.put.put_u64.Tie as tie
 room : (at k n size : ℕ) (r : Bool) {b : Bool} → k ≡ length (decimal n) → r ≡ leb (at + k) size → r ≡ b → leb (at + length (decimal n)) size ≡ b
 room at k n size r e t u = rw (sym e, sym t) u
 
-spelled : (buf : List ℕ) (at k n : ℕ) → k ≡ length (decimal n) → take at buf ++ lastDigits k n ++ drop (at + k) buf ≡ over (decimal n) buf at
-spelled buf at k n e = rw (e, all-digits n)
+spelled : (buf : List ℕ) (at k n : ℕ) → n < 10 ^ 20 → k ≡ length (decimal n) → take at buf ++ lastDigits k n ++ drop (at + k) buf ≡ over (decimal n) buf at
+spelled buf at k n b e = rw (e, all-digits n b)
 
-put-is : (buf : List ℕ) (at k n : ℕ) → k ≡ length (decimal n) → leb (at + length (decimal n)) (length buf) ≡ true → _≡_ {A = List ℕ × ℕ} (take at buf ++ lastDigits k n ++ drop (at + k) buf, at + k) (put (decimal n) (buf, at))
-put-is buf at k n e t = rw (put-yes (decimal n) buf at t, spelled buf at k n e, e)
+put-is : (buf : List ℕ) (at k n : ℕ) → n < 10 ^ 20 → k ≡ length (decimal n) → leb (at + length (decimal n)) (length buf) ≡ true → _≡_ {A = List ℕ × ℕ} (take at buf ++ lastDigits k n ++ drop (at + k) buf, at + k) (put (decimal n) (buf, at))
+put-is buf at k n b e t = rw (put-yes (decimal n) buf at t, spelled buf at k n b e, e)
 
 places-requires : tie.Need-places-requires
 places-requires c κs = search needs
@@ -44,7 +44,7 @@ same-length : tie.Need-same-length
 same-length c = search needs
 
 returns-2 : tie.Need-returns-2
-returns-2 c = rw (c .before .before .put-digits .ensures) (put-is (c .before .before .before .before .before .before .before .before .args .buf .now) (c .before .before .before .before .before .before .before .before .args .at) _ (c .before .before .before .before .before .before .before .before .args .n) (c .before .before .before .before .before .before .places .ensures) (room (c .before .before .before .before .before .before .before .before .args .at) _ (c .before .before .before .before .before .before .before .before .args .n) _ _ (c .before .before .before .before .before .before .places .ensures) (c .before .before .before .before .before .has-room .ensures) (c .before .before .before .before .if1 .taken)))
+returns-2 c = rw (c .before .before .put-digits .ensures) (put-is (c .before .before .before .before .before .before .before .before .args .buf .now) (c .before .before .before .before .before .before .before .before .args .at) _ (c .before .before .before .before .before .before .before .before .args .n) (omega arith) (c .before .before .before .before .before .before .places .ensures) (room (c .before .before .before .before .before .before .before .before .args .at) _ (c .before .before .before .before .before .before .before .before .args .n) _ _ (c .before .before .before .before .before .before .places .ensures) (c .before .before .before .before .before .has-room .ensures) (c .before .before .before .before .if1 .taken)))
 
 pub put-u64-spec : {M : Type 1} → statement M
 put-u64-spec =
