@@ -2,7 +2,7 @@
 use Prim.Native.Nat.{ℕ, _+_, _≤_}
 use mathlib.Core.List.{List, [], _∷_, _++_, append-nil, flatten}
 use mathlib.Core.Path.{_≡_, sym, ap, _∙_}
-use native.Mathlib.Nat.{add-zero}
+use native.Mathlib.Nat.{add-zero, zero-add}
 use native.Mathlib.Omega.{arith}
 use lib.ListN.{length, take, drop, length-append, take-append-drop}
 use lib.Seq.{length-paste, take-length}
@@ -12,11 +12,11 @@ use Rattle.records.specs.Traces.{deliveries}
 use Rattle.release_lists.specs.Captures.{captureList}
 use Rattle.input_events.specs.RouterErrors.{routerNumberOf}
 use Rattle.release_lists.specs.Releases.{releases}
-use Rattle.answer.specs.Put.{over, put}
-use Rattle.answer.proofs.PutLaws.{put-yes}
-use Rattle.answer.proofs.ClaimLaws as text
+use Rattle.answer_text.specs.Put.{over, put}
+use Rattle.answer_text.proofs.PutLaws.{put-yes}
+use Rattle.answer_text.proofs.ClaimLaws as text
 use Rattle.counter.specs.declared.answer.Answer.{Answer}
-use Rattle.answer_columns.specs.Pieces.{putAll, spacePieces, nonePieces, listPieces}
+use Rattle.answer_columns.specs.Pieces.{putAll, textThen, spacePieces, nonePieces, listPieces}
 use Rattle.answer_columns.specs.Columns.{numberPieces, releasesColumn, columnPieces}
 use Rattle.answer_columns.specs.Claims.{ColumnClaims}
 use Rattle.answer_columns.proofs.BlankLaws.{Blank, blank}
@@ -43,6 +43,13 @@ one-text (p ∷ l) buf at h =
     ∙ ap (put (flatten l)) (sym first)
     ∙ text.claims .put-both p (flatten l) buf at (omega arith)
 
+whole-text : (pieces : List (List ℕ)) (buf : List ℕ) → length (flatten pieces) ≤ length buf → putAll pieces (buf, 0) ≡ textThen (flatten pieces) buf
+whole-text pieces buf h =
+    let text = flatten pieces in
+    one-text pieces buf 0 (rw zero-add h)
+    ∙ put-yes text buf 0 (le-leb (0 + length text) (length buf) (rw zero-add h))
+    ∙ ap (λ (n : ℕ). (text ++ drop n buf, n)) (zero-add (length text))
+
 -- ---- the columns of a blank answer
 blank-columns : (a : Answer) (calls revision : ℕ) → Blank a
     → columnPieces calls revision a ≡ numberPieces calls (routerNumberOf (a .outcome)) revision ++ nonePieces ++ spacePieces ++ nonePieces ++ spacePieces ++ nonePieces
@@ -53,5 +60,6 @@ blank-columns a calls revision b =
 pub claims : ColumnClaims
 claims = record {
   one-text = one-text;
+  whole-text = whole-text;
   refused-blank = λ k call l calls revision h. blank-columns _ calls revision (blank k l call h);
 }

@@ -9,7 +9,7 @@ use lib.Seq.{take-suc}
 use borrow.Author.Tests.{ne-eqb}
 use Rattle.lists.specs.Tables.{Shape, entriesOf}
 use Rattle.lists.proofs.TableLaws.{entry}
-use Rattle.answer.specs.Put.{put}
+use Rattle.answer_text.specs.Put.{put}
 use Rattle.answer_columns.specs.Pieces.{putAll, commaPieces, laterPieces, entryPieces, listPieces}
 
 put-append : (a b : List (List ℕ)) (s : List ℕ × ℕ) → putAll (a ++ b) s ≡ putAll b (putAll a s)

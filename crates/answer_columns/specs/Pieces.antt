@@ -3,8 +3,9 @@ use Prim.Native.Nat.{ℕ}
 use mathlib.Core.Bool.{cond}
 use mathlib.Core.List.{List, [], _∷_, _++_}
 use lib.Dec.{eqb}
-use Rattle.answer.specs.Decimal.{decimal}
-use Rattle.answer.specs.Put.{put}
+use lib.ListN.{length, drop}
+use Rattle.answer_text.specs.Decimal.{decimal}
+use Rattle.answer_text.specs.Put.{put}
 use Rattle.handles.specs.declared.GenerationalHandle.{GenerationalHandle}
 use Rattle.handles.specs.declared.OptionalHandle.{OptionalHandle}
 use Rattle.handles.specs.declared.OptionalHandle.the-variants.{None, Some}
@@ -13,6 +14,10 @@ use Rattle.handles.specs.declared.OptionalHandle.the-variants.{None, Some}
 abbrev pub putAll : List (List ℕ) → List ℕ × ℕ → List ℕ × ℕ
 putAll [] s = s
 putAll (piece ∷ l) s = putAll l (put piece s)
+
+-- a text at the front of a buffer, what stood behind it, and the place behind it
+abbrev pub textThen : List ℕ → List ℕ → List ℕ × ℕ
+textThen text buf = (text ++ drop (length text) buf, length text)
 
 -- a space (32)
 abbrev pub spacePieces : List (List ℕ)

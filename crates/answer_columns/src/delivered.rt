@@ -10,7 +10,7 @@ ghost use Rattle.answer_columns.specs.Columns.{deliveryPieces};
 use crate::pieces::put_comma;
 use crate::pieces::put_handle;
 use crate::pieces::put_none;
-use answer::put::put_byte;
+use answer_text::put::put_byte;
 use records::trace::Deliveries;
 use records::trace::InputDelivery;
 

@@ -3,9 +3,9 @@ ghost use mathlib.Core.Path.{_≡_};
 ghost use mathlib.Core.List.{List};
 ghost use Prim.Native.Nat.{ℕ};
 ghost use Rattle.answer_columns.specs.Pieces.{putAll, nonePieces, spacePieces, cellPieces, handlePieces, optionalPieces, commaPieces};
-use answer::put::put_byte;
-use answer::put::put_pair;
-use answer::put::put_u64;
+use answer_text::put::put_byte;
+use answer_text::put::put_pair;
+use answer_text::put::put_u64;
 use handles::GenerationalHandle;
 use handles::OptionalHandle;
 

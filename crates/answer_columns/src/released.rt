@@ -10,10 +10,10 @@ ghost use Rattle.answer_columns.specs.Columns.{keyPieces, releasePieces,
 use crate::pieces::put_comma;
 use crate::pieces::put_handle;
 use crate::pieces::put_none;
-use answer::put::put_byte;
-use answer::put::put_bytes;
-use answer::put::put_pair;
-use answer::put::put_u64;
+use answer_text::put::put_byte;
+use answer_text::put::put_bytes;
+use answer_text::put::put_pair;
+use answer_text::put::put_u64;
 use maps::bindings::Binding;
 use maps::captures::Capture;
 use maps::keys::BindingKey;

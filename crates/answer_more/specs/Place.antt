@@ -2,7 +2,7 @@
 use Prim.Native.Nat.{ℕ}
 use mathlib.Core.List.{List, [], _∷_}
 use mathlib.Core.Option.{Option, none, some}
-use Rattle.answer.specs.Put.{put}
+use Rattle.answer_text.specs.Put.{put}
 use Rattle.answer_numbers.specs.declared.sink.Sink.{Sink}
 use Rattle.answer_numbers.specs.declared.sink.SinkKind.{SinkKind}
 use Rattle.answer_numbers.specs.declared.sink.SinkKind.the-variants.{Column, Dump, Digest, Words}

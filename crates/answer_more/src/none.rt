@@ -3,8 +3,8 @@ ghost use Prim.Native.Nat.{ℕ};
 ghost use mathlib.Core.List.{List};
 ghost use mathlib.Core.Path.{_≡_};
 ghost use Rattle.answer_more.specs.Place.{nonePlaced};
-use answer::put::put_byte;
 use answer_numbers::sink::SinkKind;
+use answer_text::put::put_byte;
 
 pub fn put_none(out: &mut [u8], at: usize, sink_kind: SinkKind) -> usize
     ensures { λ r. ⌜ _≡_ {A = List ℕ × ℕ} (now (out .exit), r) (nonePlaced «sink_kind» (now (out .entry), at)) ⌝ }

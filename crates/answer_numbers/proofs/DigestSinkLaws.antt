@@ -2,8 +2,8 @@
 use Prim.Native.Nat.{ℕ}
 use mathlib.Core.List.{List, [], _∷_, map, foldl}
 use mathlib.Core.Path.{_≡_, refl, sym, ap, _∙_}
-use Rattle.answer.specs.Digests.{addNumber, valueOf, digestOf}
-use Rattle.answer.specs.declared.digest.Digest.{Digest}
+use Rattle.answer_text.specs.Digests.{addNumber, valueOf, digestOf}
+use Rattle.answer_text.specs.declared.digest.Digest.{Digest}
 use Rattle.answer_numbers.specs.declared.sink.Sink.{Sink}
 use Rattle.answer_numbers.specs.declared.sink.SinkKind.{SinkKind}
 use Rattle.answer_numbers.specs.declared.sink.SinkKind.the-variants as kind

@@ -18,7 +18,7 @@ use Rattle.answer_numbers.specs.Numbers.{Number, numbersTaken, each, ind
 use Rattle.answer_numbers.proofs.TakeLaws.{then}
 
 module _ {E : Type 0} (f : E → List Number) where
-  each-append : (a b : List E) → each f (a ++ b) ≡ each f a ++ each f b
+  pub each-append : (a b : List E) → each f (a ++ b) ≡ each f a ++ each f b
   unfolding each
   each-append [] b = refl
   each-append (e ∷ a) b = ap (λ (r : List Number). f e ++ r) (each-append a b) ∙ sym (append-assoc (f e) (each f a) (each f b))

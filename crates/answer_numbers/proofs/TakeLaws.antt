@@ -13,9 +13,9 @@ use mir.Syntax.{w32}
 use mir.Val.{SFits, ofZ, toZ}
 use borrow.Author.Tests.{leb-true}
 use Rattle.lists.proofs.ListLaws.{by-test}
-use Rattle.answer.specs.Decimal.{decimal}
-use Rattle.answer.specs.Digests.{addNumber}
-use Rattle.answer.specs.Put.{put}
+use Rattle.answer_text.specs.Decimal.{decimal}
+use Rattle.answer_text.specs.Digests.{addNumber}
+use Rattle.answer_text.specs.Put.{put}
 use Rattle.answer_numbers.specs.declared.sink.Sink.{Sink}
 use Rattle.answer_numbers.specs.declared.sink.SinkKind.{SinkKind}
 use Rattle.answer_numbers.specs.declared.sink.SinkKind.the-variants as kind

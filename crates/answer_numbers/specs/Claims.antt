@@ -3,7 +3,7 @@ use Prim.Native.Nat.{ℕ}
 use mathlib.Core.List.{List, _++_}
 use mathlib.Core.Path.{_≡_}
 use lib.ListN.{length}
-use Rattle.answer.specs.Digests.{valueOf}
+use Rattle.answer_text.specs.Digests.{valueOf}
 use Rattle.answer_numbers.specs.declared.sink.Sink.{Sink}
 use Rattle.answer_numbers.specs.declared.sink.SinkKind.the-variants.{Digest}
 use Rattle.answer_numbers.specs.Numbers.{Number, sinkFrom, numbersTaken, dumpDigest}

@@ -4,10 +4,10 @@ use mathlib.Core.Bool.{Bool, true, false, cond}
 use mathlib.Core.List.{List, [], _∷_, _++_, map}
 use lib.IntN.{ℤ, pos, negsuc}
 use lib.ListN.{length}
-use Rattle.answer.specs.Decimal.{decimal}
-use Rattle.answer.specs.Digests.{addNumber, startDigest, valueOf, digestOf}
-use Rattle.answer.specs.Put.{put, putInteger}
-use Rattle.answer.specs.declared.digest.Digest.{Digest}
+use Rattle.answer_text.specs.Decimal.{decimal}
+use Rattle.answer_text.specs.Digests.{addNumber, startDigest, valueOf, digestOf}
+use Rattle.answer_text.specs.Put.{put, putInteger}
+use Rattle.answer_text.specs.declared.digest.Digest.{Digest}
 use Rattle.answer_numbers.specs.declared.sink.Sink.{Sink}
 use Rattle.answer_numbers.specs.declared.sink.SinkKind.{SinkKind}
 use Rattle.answer_numbers.specs.declared.sink.SinkKind.the-variants as kind

@@ -2,17 +2,17 @@
 ghost use Prim.Native.Nat.{ℕ};
 ghost use mathlib.Core.List.{List, [], _∷_};
 ghost use mathlib.Core.Path.{_≡_};
-ghost use Rattle.answer.specs.Decimal.{decimal};
-ghost use Rattle.answer.specs.Digests.{addNumber};
-ghost use Rattle.answer.specs.Put.{put, putInteger};
+ghost use Rattle.answer_text.specs.Decimal.{decimal};
+ghost use Rattle.answer_text.specs.Digests.{addNumber};
+ghost use Rattle.answer_text.specs.Put.{put, putInteger};
 ghost use Rattle.answer_numbers.specs.declared.sink.Sink.{Sink};
 ghost use Rattle.answer_numbers.specs.Claims.{NumberClaims};
 ghost use Rattle.answer_numbers.specs.Numbers.{plain, signed, flag, raised, separated, sinkFrom, sinkAfter, textTaken, numbersTaken, wordTaken};
 use crate::word::put_word;
-use answer::digest::Digest;
-use answer::put::put_byte;
-use answer::put::put_i32;
-use answer::put::put_u64;
+use answer_text::digest::Digest;
+use answer_text::put::put_byte;
+use answer_text::put::put_i32;
+use answer_text::put::put_u64;
 
 // A column writes a signed number with its sign; the others add 2^31 to it. A word is eight bytes, and words have nothing between them.
 pub enum SinkKind {

@@ -2,9 +2,9 @@
 ghost use Prim.Native.Nat.{ℕ};
 ghost use mathlib.Core.List.{List};
 ghost use mathlib.Core.Path.{_≡_};
-ghost use Rattle.answer.specs.Put.{put};
+ghost use Rattle.answer_text.specs.Put.{put};
 ghost use Rattle.answer_numbers.specs.Numbers.{word};
-use answer::put::put_bytes;
+use answer_text::put::put_bytes;
 
 fn bytes_of(n: u64) -> [u8; 8]
     ensures { λ r. ⌜ r ≡ word n ⌝ }

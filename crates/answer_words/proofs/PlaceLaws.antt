@@ -4,14 +4,11 @@ use mathlib.Core.Bool.{Bool, false}
 use mathlib.Core.List.{List, [], _∷_, _++_, flatten, map}
 use mathlib.Core.Option.{Option, none, some}
 use mathlib.Core.Path.{_≡_, refl, sym, ap, _∙_}
-use native.Mathlib.Nat.{zero-add}
 use native.Mathlib.Omega.{arith}
-use borrow.Author.Tests.{le-leb}
-use lib.ListN.{length, drop, length-append}
+use lib.ListN.{length, length-append}
 use Rattle.lists.proofs.ListLaws.{map-append}
-use Rattle.answer.specs.Put.{put}
-use Rattle.answer.specs.declared.digest.Digest.{Digest}
-use Rattle.answer.proofs.PutLaws.{put-yes}
+use Rattle.answer_text.specs.Put.{put}
+use Rattle.answer_text.specs.declared.digest.Digest.{Digest}
 use Rattle.answer_numbers.specs.declared.sink.SinkKind.the-variants.{Words}
 use Rattle.answer_numbers.specs.Numbers.{Number, dumpedNumber, lowBytes, word, numberTaken, numbersTaken}
 use Rattle.answer_more.specs.Place.{placeOf, placed, morePlaced}
@@ -59,7 +56,4 @@ bytes-long (n ∷ l) = length-append (word n) (bytesOf l) ∙ omega (arith, byte
 -- with room for all their bytes, words stand at the front of a buffer, and behind them what stood there
 pub words-whole : (l buf : List ℕ) → length (bytesOf l) ≤ length buf → putAll (map word l) (buf, 0) ≡ bytesThen l buf
 unfolding bytesOf
-words-whole l buf h =
-    columns.claims .one-text (map word l) buf 0 (rw zero-add h)
-    ∙ put-yes (bytesOf l) buf 0 (le-leb (0 + length (bytesOf l)) (length buf) (rw zero-add h))
-    ∙ ap (λ (n : ℕ). (bytesOf l ++ drop n buf, n)) (zero-add (length (bytesOf l)))
+words-whole l buf h = columns.claims .whole-text (map word l) buf h

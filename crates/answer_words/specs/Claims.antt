@@ -2,7 +2,7 @@
 use Prim.Native.Nat.{ℕ, _≤_, _<_}
 use mathlib.Core.List.{List, _++_}
 use mathlib.Core.Path.{_≡_}
-use lib.ListN.{length, getD, drop}
+use lib.ListN.{length, getD}
 use Rattle.lists.specs.Tables.{entriesOf}
 use Rattle.release_lists.specs.Releases.{releases}
 use Rattle.input_events.specs.RouterErrors.{routerNumberOf}
@@ -11,6 +11,7 @@ use Rattle.calls.specs.declared.call.Lists.{Lists}
 use Rattle.counter.specs.declared.answer.Answer.{Answer}
 use Rattle.counter.specs.declared.step.Counter.{Counter}
 use Rattle.counter.specs.Step.{stepped}
+use Rattle.answer_columns.specs.Pieces.{textThen}
 use Rattle.answer_words.specs.Answers.{answerWords, bytesOf, answerPlaced}
 use Rattle.answer_words.specs.Bounds.{mostOf, Bounded}
 use Rattle.answer_words.specs.Lengths.{All, Lengths}
@@ -22,7 +23,7 @@ stepWords k call l = answerWords call (stepped k call l .answer) (stepped k call
 
 -- the bytes of words at the front of a buffer, what stood behind them, and the place behind them
 abbrev pub bytesThen : List ℕ → List ℕ → List ℕ × ℕ
-bytesThen words buf = (bytesOf words ++ drop (length (bytesOf words)) buf, length (bytesOf words))
+bytesThen words buf = textThen (bytesOf words) buf
 
 pub record WordClaims : Type 0 where
   -- the first word is the answer's number

@@ -19,10 +19,10 @@ use records::surface::SurfaceKind;
 // A name, a space, the answer's number and a line feed.
 pub fn report(name: &[u8], outcome: Outcome) {
     let mut line = [0u8; 80];
-    let named = answer::put::put_bytes(&mut line, 0, name);
-    let spaced = answer::put::put_byte(&mut line, named, b' ');
-    let numbered = answer::put::put_u64(&mut line, spaced, records::error::number(outcome));
-    let ended = answer::put::put_byte(&mut line, numbered, b'\n');
+    let named = answer_text::put::put_bytes(&mut line, 0, name);
+    let spaced = answer_text::put::put_byte(&mut line, named, b' ');
+    let numbered = answer_text::put::put_u64(&mut line, spaced, records::error::number(outcome));
+    let ended = answer_text::put::put_byte(&mut line, numbered, b'\n');
     write_front(&line, ended);
 }
 

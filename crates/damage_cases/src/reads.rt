@@ -46,10 +46,10 @@ fn origin() -> InversePointArguments {
 // A name and a plain field of a damaged state.
 fn show(name: &[u8], n: u64) {
     let mut line = [0u8; 80];
-    let named = answer::put::put_bytes(&mut line, 0, name);
-    let spaced = answer::put::put_byte(&mut line, named, b' ');
-    let numbered = answer::put::put_u64(&mut line, spaced, n);
-    let ended = answer::put::put_byte(&mut line, numbered, b'\n');
+    let named = answer_text::put::put_bytes(&mut line, 0, name);
+    let spaced = answer_text::put::put_byte(&mut line, named, b' ');
+    let numbered = answer_text::put::put_u64(&mut line, spaced, n);
+    let ended = answer_text::put::put_byte(&mut line, numbered, b'\n');
     crate::write_front(&line, ended);
 }
 

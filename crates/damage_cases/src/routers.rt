@@ -70,17 +70,17 @@ fn ask(name: &[u8], registry: CompositionRegistry, router: PlatformInputRouter) 
 
 fn report(name: &[u8], route: RouterOutcome, panel: RouterOutcome, all: RouterOutcome) {
     let mut line = [0u8; 80];
-    let named = answer::put::put_bytes(&mut line, 0, name);
+    let named = answer_text::put::put_bytes(&mut line, 0, name);
     let routed = put_answer(&mut line, named, route);
     let of_panel = put_answer(&mut line, routed, panel);
     let of_all = put_answer(&mut line, of_panel, all);
-    let ended = answer::put::put_byte(&mut line, of_all, b'\n');
+    let ended = answer_text::put::put_byte(&mut line, of_all, b'\n');
     crate::write_front(&line, ended);
 }
 
 fn put_answer(line: &mut [u8], at: usize, outcome: RouterOutcome) -> usize {
-    let spaced = answer::put::put_byte(line, at, b' ');
-    answer::put::put_u64(line, spaced, input_events::error::number(outcome))
+    let spaced = answer_text::put::put_byte(line, at, b' ');
+    answer_text::put::put_u64(line, spaced, input_events::error::number(outcome))
 }
 
 fn key_press(value: u64, physical_key: u32, surface: GenerationalHandle) -> Binding {

@@ -4,7 +4,7 @@ use mathlib.Core.List.{List}
 use mathlib.Core.Path.{_≡_, sym, ap, _∙_}
 use Rattle.lists.specs.Below.{iterBelow}
 use Rattle.lists.proofs.BelowLaws.{iter-none, iter-more}
-use Rattle.answer.specs.Put.{put}
+use Rattle.answer_text.specs.Put.{put}
 use Rattle.answer_columns.specs.Pieces.{putAll}
 use Rattle.counter.specs.declared.step.Counter.{Counter}
 use Rattle.counter.specs.declared.step.Stepped.{Stepped}

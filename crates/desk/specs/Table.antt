@@ -2,7 +2,7 @@
 use Prim.Native.Nat.{ℕ, _+_}
 use mathlib.Core.List.{List, [], _∷_, _++_}
 use Rattle.lists.specs.Below.{iterBelow}
-use Rattle.answer.specs.Put.{put}
+use Rattle.answer_text.specs.Put.{put}
 use Rattle.answer_columns.specs.Pieces.{putAll}
 use Rattle.answer_columns.specs.Columns.{columnPieces}
 use Rattle.counter.specs.declared.step.Counter.{Counter}

@@ -2,16 +2,16 @@
 ghost use mathlib.Core.Path.{_≡_};
 ghost use mathlib.Core.List.{List};
 ghost use Prim.Native.Nat.{ℕ};
-ghost use Rattle.answer.specs.Put.{put};
+ghost use Rattle.answer_text.specs.Put.{put};
 ghost use Rattle.answer_columns.specs.Pieces.{putAll};
 ghost use Rattle.desk.specs.Table.{columnLine, linePieces, linesAfter, tableAfter};
 use crate::opening::Opened;
 use crate::opening::no_lists;
 use crate::opening::open_desk;
 use crate::steps::call_of;
-use answer::put::put_byte;
-use answer::put::put_bytes;
 use answer_columns::columns::put_columns;
+use answer_text::put::put_byte;
+use answer_text::put::put_bytes;
 use counter::step::Stepped;
 use counter::step::step;
 

@@ -5,8 +5,8 @@ mod opening;
 
 use crate::opening::Opened;
 use crate::opening::open;
-use answer::put::put_byte;
-use answer::put::put_u64;
+use answer_text::put::put_byte;
+use answer_text::put::put_u64;
 use composition_hits::stack::hit_test_stack;
 use geometry::transform::Point;
 use libc::STDOUT_FILENO;

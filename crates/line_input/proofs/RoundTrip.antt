@@ -12,8 +12,8 @@ use Rattle.lists.proofs.ListLaws.{by-test}
 use Rattle.script.proofs.NumberLaws.{push-more}
 use Rattle.script.specs.Numbers.{pushDigit, digitsOf, isLed, magnitudeOf, numberOf}
 use Rattle.script.specs.declared.number.Magnitude.{Magnitude}
-use Rattle.answer.proofs.DecimalLaws.{decimal-one, decimal-more, length-one, length-more, shorter}
-use Rattle.answer.specs.Decimal.{decimal}
+use Rattle.answer_text.proofs.DecimalLaws.{decimal-one, decimal-more, length-one, length-more, shorter}
+use Rattle.answer_text.specs.Decimal.{decimal}
 use Rattle.line_input.specs.Claims.{RoundTripClaims}
 
 abbrev whole : ℕ → Magnitude
@@ -47,7 +47,7 @@ digits-within (suc f) n h b =
     parts n = omega arith
 
     more : (n f : ℕ) → n ≤ suc f → n < 2 ^ 64 → 10 ≤ n → digitsOf (decimal (n / 10)) ≡ whole (n / 10) → digitsOf (decimal n) ≡ whole n
-    more n f h b t ih = rw (decimal-more n t, foldl-append, ih) (digit-read (n / 10) (n % 10) (omega arith) (omega arith) ∙ ap whole (parts n))
+    more n f h b t ih = rw (decimal-more n (omega arith) t, foldl-append, ih) (digit-read (n / 10) (n % 10) (omega arith) (omega arith) ∙ ap whole (parts n))
 
 -- ---- the first digit
 -- the first byte of decimal digits is one of `0` to `9`, and `0` only in 0
@@ -63,29 +63,29 @@ first-one n h = record {
   led = λ p. rw (decimal-one n h) (omega arith);
 }
 
-first-within : (f n : ℕ) → n ≤ f → First n
-first-within zero n h = first-one n (small n h)
+first-within : (f n : ℕ) → n ≤ f → n < 2 ^ 64 → First n
+first-within zero n h b = first-one n (small n h)
   where
     small : (n : ℕ) → n ≤ 0 → n < 10
     small n h = omega arith
-first-within (suc f) n h =
+first-within (suc f) n h b =
     by-test (ltb n 10)
     (λ t. first-one n (ltb-true n 10 t))
-    (λ t. more n (ltb-false n 10 t) (first-within f (n / 10) (shorter n f h (ltb-false n 10 t))))
+    (λ t. more n (omega arith) (ltb-false n 10 t) (first-within f (n / 10) (shorter n f h (ltb-false n 10 t)) (omega arith)))
   where
-    more : (n : ℕ) → 10 ≤ n → First (n / 10) → First n
-    more n t r =
-        let same : getD (decimal n) 0 0 ≡ getD (decimal (n / 10)) 0 0 = ap (λ (l : List ℕ). getD l 0 0) (decimal-more n t) ∙ List·getD-append (decimal (n / 10)) ((48 + n % 10) ∷ []) 0 0 (r .some) in
+    more : (n : ℕ) → n < 10 ^ 20 → 10 ≤ n → First (n / 10) → First n
+    more n b t r =
+        let same : getD (decimal n) 0 0 ≡ getD (decimal (n / 10)) 0 0 = ap (λ (l : List ℕ). getD l 0 0) (decimal-more n b t) ∙ List·getD-append (decimal (n / 10)) ((48 + n % 10) ∷ []) 0 0 (r .some) in
         record {
-          some = omega (arith, length-more n t);
+          some = omega (arith, length-more n b t);
           digit = omega (arith, same, r .digit);
           led = λ p. omega (arith, same, r .led (omega arith));
         }
 
-led-is : (n : ℕ) → isLed (decimal n) ≡ true
-led-is zero = rw (length-one 0 (omega arith))
-led-is (suc n) =
-    let r = first-within (suc n) (suc n) (le-refl (suc n)) in
+led-is : (n : ℕ) → n < 2 ^ 64 → isLed (decimal n) ≡ true
+led-is zero b = rw (length-one 0 (omega arith))
+led-is (suc n) b =
+    let r = first-within (suc n) (suc n) (le-refl (suc n)) b in
     rw (ne-eqb (length (decimal (suc n))) 0 (above _ (r .some)), ne-eqb (getD (decimal (suc n)) 0 0) 48 (over _ (r .led (omega arith))))
     (by-test (eqb (length (decimal (suc n))) 1) (λ t. rw t) (λ t. rw t))
   where
@@ -97,10 +97,10 @@ led-is (suc n) =
 
 magnitude-is : (n : ℕ) → n < 2 ^ 64 → magnitudeOf (decimal n) ≡ whole n
 unfolding magnitudeOf
-magnitude-is n b = rw (led-is n) (digits-within n n (le-refl n) b)
+magnitude-is n b = rw (led-is n b) (digits-within n n (le-refl n) b)
 
-no-minus : (n : ℕ) → getD (decimal n) 0 0 ≡ 45 → ⊥
-no-minus n e = omega (arith, first-within n n (le-refl n) .digit)
+no-minus : (n : ℕ) → n < 2 ^ 64 → getD (decimal n) 0 0 ≡ 45 → ⊥
+no-minus n b e = omega (arith, first-within n n (le-refl n) b .digit)
 
 not-zero : (n : ℕ) → 0 < n → n ≡ 0 → ⊥
 not-zero n h e = omega arith
@@ -108,6 +108,6 @@ not-zero n h e = omega arith
 pub claims : RoundTripClaims
 unfolding numberOf
 claims = record {
-  read-back = λ n b. rw (ne-eqb (getD (decimal n) 0 0) 45 (no-minus n), magnitude-is n b);
+  read-back = λ n b. rw (ne-eqb (getD (decimal n) 0 0) 45 (no-minus n b), magnitude-is n b);
   read-back-negative = λ n p b. rw (magnitude-is n b, ne-eqb n 0 (not-zero n p));
 }

@@ -4,7 +4,7 @@ use mathlib.Core.Bool.{true, false}
 use mathlib.Core.List.{_∷_}
 use mathlib.Core.Path.{_≡_}
 use Rattle.script.specs.Numbers.{numberOf}
-use Rattle.answer.specs.Decimal.{decimal}
+use Rattle.answer_text.specs.Decimal.{decimal}
 
 pub record RoundTripClaims : Type 0 where
   pub read-back : (n : ℕ) → n < 2 ^ 64 → numberOf (decimal n) ≡ record { number = record { negative = false; magnitude = n }; «is_number» = true }

@@ -5,7 +5,7 @@ use mathlib.Core.List.{List}
 use lib.Dec.{ltb}
 use lib.ListN.{length, take, drop}
 use Rattle.script.specs.Words.{upTo}
-use Rattle.answer.specs.Put.{put}
+use Rattle.answer_text.specs.Put.{put}
 
 -- the bytes of a chunk from an index to the next line feed (10), or to the chunk's end
 abbrev pub lineIn : List ℕ → ℕ → List ℕ

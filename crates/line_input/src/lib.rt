@@ -1,6 +1,6 @@
 // Lines taken out of the chunks that an input arrives in. A line's bytes gather in a buffer that the caller lends;
 // a line that is longer than the buffer fills it, and its other bytes are dropped.
-use answer::put::put_clipped;
+use answer_text::put::put_clipped;
 use script::line::Line;
 use script::words::find;
 ghost use mathlib.Core.Path.{_≡_};

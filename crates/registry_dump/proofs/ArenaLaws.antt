@@ -21,7 +21,7 @@ use Rattle.answer_numbers.proofs.EachLaws.{Taken, next-taken}
 use Rattle.registry_dump.specs.Arenas.{slotHead, slotNumbers, indexNumbers}
 
 -- ---- the free list
-long : (a : Arena) {vs : List Val} → Is T.the-row a vs → length (a .free) ≡ 64
+pub long : (a : Arena) {vs : List Val} → Is T.the-row a vs → length (a .free) ≡ 64
 long a {vs} p = sym (length-map (a .free) _) ∙ LL.owed T.the-type T′.the-laws a vs p .1 .1 .0 .1 .0 .1
 
 module _ (a : Arena) {vs : List Val} (p : Is T.the-row a vs) where

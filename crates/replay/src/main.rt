@@ -5,8 +5,10 @@ use replay_lines::answer_bytes;
 use replay_lines::first_session;
 use replay_lines::next_answer;
 use replay_session::session::Session;
+ghost use Prim.Native.Nat.{_≤_};
 ghost use mathlib.Core.List.{[]};
 ghost use mathlib.Core.Path.{_≡_};
+ghost use lib.ListN.{length};
 ghost use Rattle.replay_lines.specs.Turns.{Held, servingOf, heldOf, heldIn, chunkServed};
 
 // The session, and how many bytes of the next line have come.
@@ -32,6 +34,7 @@ fn write_front(out: &[u8], len: usize) {
 
 // Answers each line that a chunk completes: the loop itself does nothing but write.
 fn answer_chunk(reading: Reading, chunk: &[u8], line: &mut [u8], out: &mut [u8]) -> Reading
+    requires { ⌜ 524288 ≤ length (now out) ⌝ }
     ensures { λ r. ⌜ _≡_ {A = Held} (heldOf (r .session) (now (line .exit)) (r .len) (now (out .exit))) (heldIn (chunkServed (servingOf (reading .session) (now (line .entry)) (reading .len) (now (out .entry)) []) (now (chunk .entry)))) ⌝ }
 {
     let mut session = reading.session;
@@ -48,7 +51,9 @@ fn answer_chunk(reading: Reading, chunk: &[u8], line: &mut [u8], out: &mut [u8])
 }
 
 // Reads once and answers the lines that are complete, so that each is answered before more is read.
-fn serve_some(reading: Reading, line: &mut [u8], out: &mut [u8]) -> Served {
+fn serve_some(reading: Reading, line: &mut [u8], out: &mut [u8]) -> Served
+    requires { ⌜ 524288 ≤ length (now out) ⌝ }
+{
     let mut chunk = io::large_buffer();
     let got = libc::read(STDIN_FILENO, &mut chunk);
     if got <= 0 {
@@ -73,7 +78,9 @@ fn first_reading() -> Reading {
 
 // Serves the input to its end. A proved loop has to end, so this one counts its turns down from a number that no run uses up.
 // A last line that no line feed ends is a line too.
-fn serve(line: &mut [u8], out: &mut [u8]) {
+fn serve(line: &mut [u8], out: &mut [u8])
+    requires { ⌜ 524288 ≤ length (now out) ⌝ }
+{
     let mut reading = first_reading();
     let mut is_open = true;
     let mut turns = u64::MAX;
@@ -87,9 +94,10 @@ fn serve(line: &mut [u8], out: &mut [u8]) {
     write_front(out, last.at);
 }
 
-// The longest answer is a whole state: some 9,200 numbers of at most 21 bytes.
+// Every line fits the buffer: no answer is longer than 419,862 bytes (`line_lengths::line_length_claims`), and `answer_bytes`
+// requires the room.
 fn main() {
     let mut line = [0u8; 4097];
-    let mut out = [0u8; 262144];
+    let mut out = [0u8; 524288];
     serve(&mut line, &mut out);
 }

@@ -1,4 +1,5 @@
 pub mod LineLaws
 pub mod FoldLaws
+pub mod TextLaws
 pub mod TurnLaws
 pub mod LoopLaws

@@ -10,8 +10,8 @@ use lib.Seq.{take-all, take-append-seam, length-take-le}
 use borrow.Author.Tests.{le-leb, lt-leb, leb-true, leb-false, ne-eqb}
 use Rattle.lists.proofs.ListLaws.{by-test}
 use Rattle.script.specs.Lines.{lineOf, isSkipped}
-use Rattle.answer.specs.Put.{over, put}
-use Rattle.answer.proofs.PutLaws.{put-yes}
+use Rattle.answer_text.specs.Put.{over, put}
+use Rattle.answer_text.proofs.PutLaws.{put-yes}
 use Rattle.replay_lines.specs.Replay.{Replay, lineAnswered, lineReplayed}
 
 -- the first bytes of the buffer are the line so far, as much of it as there is room for

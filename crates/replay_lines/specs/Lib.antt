@@ -1,3 +1,4 @@
 pub mod Replay
+pub mod Texts
 pub mod Turns
 pub mod Claims

@@ -7,13 +7,15 @@ use replay_session::answered::answer_line;
 use replay_session::session::Answered;
 use replay_session::session::Session;
 use replay_session::starts::first_counter;
-ghost use Prim.Native.Nat.{ℕ};
+ghost use Prim.Native.Nat.{ℕ, _≤_};
 ghost use mathlib.Core.List.{List};
 ghost use mathlib.Core.Path.{_≡_};
-ghost use lib.ListN.{take};
+ghost use lib.ListN.{length, take};
+ghost use Rattle.answer_columns.specs.Pieces.{textThen};
 ghost use Rattle.replay_session.specs.declared.session.Answered.{Answered};
 ghost use Rattle.line_input.specs.LineInput.{nextPlace};
 ghost use Rattle.replay_lines.specs.Replay.{firstSession, lineAnswered};
+ghost use Rattle.replay_lines.specs.Texts.{answerText};
 ghost use Rattle.replay_lines.specs.Turns.{servingOf, IsTurn};
 ghost use Rattle.replay_lines.specs.Claims.{ReplayClaims};
 
@@ -38,9 +40,12 @@ pub fn first_session() -> Session
     }
 }
 
-// Answers the line of which `len` bytes stand in the buffer, if it asks for an answer.
+// Answers the line of which `len` bytes stand in the buffer, if it asks for an answer. The answers' buffer holds the longest
+// line, so that the whole text of the answer stands at its front.
 pub fn answer_bytes(session: Session, line: &[u8], len: usize, out: &mut [u8]) -> Answered
+    requires { ⌜ 524288 ≤ length (now out) ⌝ }
     ensures { λ r. ⌜ _≡_ {A = List ℕ × Answered} (now (out .exit), r) (lineAnswered session (take len (now (line .entry))) (now (out .entry))) ⌝ }
+    ensures { λ r. ⌜ _≡_ {A = List ℕ × ℕ} (now (out .exit), r .at) (textThen (answerText session (take len (now (line .entry)))) (now (out .entry))) ⌝ }
 {
     if is_line_skipped(line, len) {
         return Answered { session, at: 0 };
@@ -57,6 +62,7 @@ pub fn next_answer(
     from: usize,
     out: &mut [u8],
 ) -> Turn
+    requires { ⌜ 524288 ≤ length (now out) ⌝ }
     ensures { λ r. ⌜ IsTurn (servingOf session (now (line .entry)) len (now (out .entry))) (servingOf (r .session) (now (line .exit)) (r .len) (now (out .exit))) (take (r .at) (now (out .exit))) (now (chunk .entry)) from ⌝ }
     ensures { λ r. ⌜ r .next ≡ nextPlace (now (chunk .entry)) from ⌝ }
 {

@@ -6,7 +6,7 @@ use native.Mathlib.Omega.{arith}
 use lib.ListN.{length, take}
 use borrow.Author.Needs.{needs}
 use Rattle.script.proofs.WordLaws.{part-is, end-within}
-use Rattle.answer.specs.Put.{put}
+use Rattle.answer_text.specs.Put.{put}
 use Rattle.line_input.proofs.InputLaws.{complete, incomplete, next-line, next-chunk, nothing}
 use Rattle.line_input.proofs.take_line.Statement.{statement}
 use Rattle.line_input.proofs.take_line.Tie as tie

@@ -23,7 +23,7 @@ returns c =
     let taken = c .before .before .before .before .before .before .before .before .before .take-line .ensures in (
       turn-answered (a .session) (a .line .now) (a .len) (a .out .now) (a .chunk .now) (a .from) _ _ (taken .0) _ (c .before .before .before .answer-bytes .result)
           (sym (c .before .before .before .before .before .before .if1 .taken) ∙ taken .1 .1)
-          (c .before .before .before .answer-bytes .ensures),
+          (c .before .before .before .answer-bytes .ensures .0),
       taken .1 .0,
     )
 

@@ -2,7 +2,7 @@
 use mathlib.Core.List.{[], _∷_}
 use mathlib.Core.Path.{ap, _∙_}
 use borrow.Author.Needs.{needs}
-use Rattle.answer.specs.Put.{put}
+use Rattle.answer_text.specs.Put.{put}
 use Rattle.answer_columns.proofs.delivered.put_delivery.Statement.{statement}
 use Rattle.answer_columns.proofs.delivered.put_delivery.Tie as tie
 

@@ -2,8 +2,8 @@
 use mathlib.Core.List.{[], _∷_}
 use mathlib.Core.Path.{ap, _∙_}
 use borrow.Author.Needs.{needs}
-use Rattle.answer.specs.Decimal.{decimal}
-use Rattle.answer.specs.Put.{put}
+use Rattle.answer_text.specs.Decimal.{decimal}
+use Rattle.answer_text.specs.Put.{put}
 use Rattle.answer_columns.proofs.released.put_triple.Statement.{statement}
 use Rattle.answer_columns.proofs.released.put_triple.Tie as tie
 

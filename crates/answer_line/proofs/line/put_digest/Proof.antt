@@ -1,8 +1,8 @@
 -- `put_digest` meets its contract: a space and a number are put one after the other.
 use mathlib.Core.Path.{ap, _∙_}
 use borrow.Author.Needs.{needs}
-use Rattle.answer.specs.Decimal.{decimal}
-use Rattle.answer.specs.Put.{put}
+use Rattle.answer_text.specs.Decimal.{decimal}
+use Rattle.answer_text.specs.Put.{put}
 use Rattle.answer_line.proofs.line.put_digest.Statement.{statement}
 use Rattle.answer_line.proofs.line.put_digest.Tie as tie
 

@@ -2,7 +2,7 @@
 use mathlib.Core.Path.{ap, _∙_}
 use mathlib.Core.List.{[], _∷_}
 use borrow.Author.Needs.{needs}
-use Rattle.answer.specs.Put.{put}
+use Rattle.answer_text.specs.Put.{put}
 use Rattle.answer_numbers.specs.Numbers.{dumpDigest}
 use Rattle.router_dump.specs.Router.{routerNumbers}
 use Rattle.answer_columns.specs.Pieces.{putAll}

@@ -2,7 +2,7 @@
 use mathlib.Core.Path.{ap, _∙_}
 use mathlib.Core.List.{[], _∷_}
 use borrow.Author.Needs.{needs}
-use Rattle.answer.specs.Put.{put}
+use Rattle.answer_text.specs.Put.{put}
 use Rattle.answer_columns.specs.Pieces.{putAll, nonePieces, cellPieces}
 use Rattle.answer_line.specs.Line.{blankPieces}
 use Rattle.answer_line.proofs.plain.put_no_call.Statement.{statement}

@@ -1,7 +1,7 @@
 -- `raise` meets its contract: an i32 moved up by 2^31 is not negative and fits.
 use mir.Facts.{toZ-ofZ}
 use mir.Syntax.{w64}
-use Rattle.answer.proofs.SignLaws.{widened}
+use Rattle.answer_text.proofs.SignLaws.{widened}
 use Rattle.answer_numbers.proofs.RaiseLaws.{raised-is, raised-signed, raised-unsigned}
 use Rattle.answer_numbers.proofs.sink.raise.Statement.{statement}
 use Rattle.answer_numbers.proofs.sink.raise.Tie as tie

@@ -3,7 +3,7 @@ use mathlib.Core.Path.{refl}
 use Rattle.lists.specs.Tables.{entriesOf, packed}
 use Rattle.handles.specs.Slots.{emptyArena}
 use Rattle.composition_state.specs.Start.{freshRegistry}
-use Rattle.answer.specs.Digests.{mixA, mixB, digestOf}
+use Rattle.answer_text.specs.Digests.{mixA, mixB, digestOf}
 use Rattle.answer_numbers.specs.Numbers.{each, indices}
 use Rattle.registry_dump.proofs.registry.registry_claims.Statement.{statement}
 use Rattle.registry_dump.proofs.registry.registry_claims.Tie as tie

@@ -3,7 +3,7 @@ use Prim.Native.Nat.{ℕ}
 use mathlib.Core.Path.{ap, _∙_}
 use mathlib.Core.List.{List}
 use borrow.Author.Needs.{needs}
-use Rattle.answer.specs.Digests.{valueOf}
+use Rattle.answer_text.specs.Digests.{valueOf}
 use Rattle.answer_numbers.specs.declared.sink.Sink.{Sink}
 use Rattle.answer_numbers.proofs.DigestSinkLaws.{digest-taken}
 use Rattle.router_dump.specs.Router.{routerNumbers}

@@ -1,0 +1,5 @@
+pub mod PieceLaws
+pub mod SizeLaws
+pub mod DumpLaws
+pub mod TypeLaws
+pub mod LineLaws
