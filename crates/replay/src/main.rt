@@ -1,4 +1,6 @@
 // Runs a script from standard input and writes one answer line for each call.
+mod messages;
+
 use libc::STDIN_FILENO;
 use libc::STDOUT_FILENO;
 use replay_lines::answer_bytes;
@@ -11,10 +13,17 @@ ghost use mathlib.Core.Path.{_≡_};
 ghost use lib.ListN.{length};
 ghost use Rattle.replay_lines.specs.Turns.{Held, servingOf, heldOf, heldIn, chunkServed};
 
-// The session, and how many bytes of the next line have come.
+// How many lines have ended, and whether every answer so far could be written.
+struct Told {
+    lines: u64,
+    is_written: bool,
+}
+
+// The session, how many bytes of the next line have come, and what was told.
 struct Reading {
     session: Session,
     len: usize,
+    told: Told,
 }
 
 // What is read after an input, and whether more may come.
@@ -23,12 +32,45 @@ struct Served {
     is_open: bool,
 }
 
-// Writes the first `len` bytes of an answer.
-fn write_front(out: &[u8], len: usize) {
-    if 0 < len {
-        if len <= out.len() {
-            io::write_all(STDOUT_FILENO, &out[..len]);
-        }
+// The number of the next line; it stays at its end.
+fn next_line(lines: u64) -> u64 {
+    if lines < u64::MAX {
+        return lines + 1;
+    }
+    lines
+}
+
+// Writes the answer that stands in the first `at` bytes of a buffer, for a line of `len` bytes that has ended.
+fn write_answer(
+    told: Told,
+    has_ended: bool,
+    out: &[u8],
+    at: usize,
+    line: &[u8],
+    len: usize,
+) -> Told {
+    if has_ended {} else {
+        return told;
+    }
+    let lines = next_line(told.lines);
+    if at == 0 {
+        return Told {
+            lines,
+            is_written: told.is_written,
+        };
+    }
+    if messages::is_no_call(out) {
+        messages::tell_fault(lines, line, len);
+    }
+    if messages::write_front(STDOUT_FILENO, out, at) {
+        return Told {
+            lines,
+            is_written: told.is_written,
+        };
+    }
+    Told {
+        lines,
+        is_written: false,
     }
 }
 
@@ -39,15 +81,16 @@ fn answer_chunk(reading: Reading, chunk: &[u8], line: &mut [u8], out: &mut [u8])
 {
     let mut session = reading.session;
     let mut len = reading.len;
+    let mut told = reading.told;
     let mut at = 0;
     while at < chunk.len() {
         let turn = next_answer(session, len, line, chunk, at, out);
-        write_front(out, turn.at);
+        told = write_answer(told, turn.has_ended, out, turn.at, line, turn.ended_len);
         session = turn.session;
         len = turn.len;
         at = turn.next;
     }
-    Reading { session, len }
+    Reading { session, len, told }
 }
 
 // Reads once and answers the lines that are complete, so that each is answered before more is read.
@@ -64,16 +107,25 @@ fn serve_some(reading: Reading, line: &mut [u8], out: &mut [u8]) -> Served
     }
     let n = io::count(got, &chunk);
     let next = answer_chunk(reading, &chunk[..n], line, out);
+    let told = next.told;
     Served {
         reading: next,
-        is_open: true,
+        is_open: told.is_written,
     }
 }
 
 // Nothing is read yet.
 fn first_reading() -> Reading {
     let session = first_session();
-    Reading { session, len: 0 }
+    let told = Told {
+        lines: 0,
+        is_written: true,
+    };
+    Reading {
+        session,
+        len: 0,
+        told,
+    }
 }
 
 // Serves the input to its end. A proved loop has to end, so this one counts its turns down from a number that no run uses up.
@@ -91,12 +143,19 @@ fn serve(line: &mut [u8], out: &mut [u8])
         turns -= 1;
     }
     let last = answer_bytes(reading.session, line, reading.len, out);
-    write_front(out, last.at);
+    let told = write_answer(reading.told, true, out, last.at, line, reading.len);
+    if told.is_written {} else {
+        messages::tell_unwritten();
+    }
 }
 
 // Every line fits the buffer: no answer is longer than 419,862 bytes (`line_lengths::line_length_claims`), and `answer_bytes`
 // requires the room.
 fn main() {
+    if os::arg_count() > 1 {
+        messages::tell_usage();
+        return;
+    }
     let mut line = [0u8; 4097];
     let mut out = [0u8; 524288];
     serve(&mut line, &mut out);

@@ -20,12 +20,14 @@ ghost use Rattle.replay_lines.specs.Turns.{servingOf, IsTurn};
 ghost use Rattle.replay_lines.specs.Claims.{ReplayClaims};
 
 // After a turn: the session, how many bytes of the next line are there, where the chunk goes on, and how many bytes of an
-// answer stand at the front of the buffer.
+// answer stand at the front of the buffer; whether a line ended, and how many bytes of it are in the line's buffer.
 pub struct Turn {
     pub session: Session,
     pub len: usize,
     pub next: usize,
     pub at: usize,
+    pub has_ended: bool,
+    pub ended_len: usize,
 }
 
 // Nothing is answered yet, and no digests are shown.
@@ -75,6 +77,8 @@ pub fn next_answer(
             len: 0,
             next: taken.next,
             at: answered.at,
+            has_ended: true,
+            ended_len: taken.len,
         };
     }
     Turn {
@@ -82,6 +86,8 @@ pub fn next_answer(
         len: taken.len,
         next: taken.next,
         at: 0,
+        has_ended: false,
+        ended_len: 0,
     }
 }
 
