@@ -1,5 +1,5 @@
-//! Measures the linked library, through the crate `nibcobalt`, and the unchanged Rust on the same events in one process.
-//! The words are the names of cases; without any, all are measured.
+//! Measures the linked library, through the crate `nibcobalt`, and the unchanged Rust on the same events in one
+//! process. The words are the names of cases; without any, all are measured.
 
 #[path = "../../../comparison/src/bin/bench/cases.rs"]
 mod cases;
@@ -38,11 +38,12 @@ mod linked {
 const RUNS: u32 = 9;
 
 const HOW: &str = "\
-All times are CPU times, in one process and one thread. Each side has one registry and one router, which each call alters.
-The time is that of a loop over all turns, the least of 9 runs. A disconnect finds its presses or captures in a state of its
-own, which is set up before the clock starts. The library is called through the crate nibcobalt: writing the call, the two
-exchanges of the router's memory and reading the answer are in its times.
-Both sides ran the same text and answered the same numbers (revision, open presses, a sum over all answers) for each case.";
+All times are CPU times, in one process and one thread. Each side has one registry and one router, which each call
+alters. The time is that of a loop over all turns, the least of 9 runs. A disconnect finds its presses or captures in a
+state of its own, which is set up before the clock starts. The library is called through the crate nibcobalt: writing
+the call, the two exchanges of the router's memory and reading the answer are in its times.
+Both sides ran the same text and answered the same numbers (revision, open presses, a sum over all answers) for each
+case.";
 
 /// The turns of a run that is timed. The Rust's are many, as they are short; each disconnect needs a state of its own.
 fn turns(case: &Case) -> [u64; 2] {

@@ -1,4 +1,5 @@
-// The loops of one side. This text is compiled over the unchanged Rust and over the crate: only the imports before it differ.
+// The loops of one side. This text is compiled over the unchanged Rust and over the crate: only the imports before it
+// differ.
 
 use std::hint::black_box;
 use std::time::Duration;

@@ -83,7 +83,8 @@ impl Default for Both {
 }
 
 impl Both {
-    /// Runs one line on both sides and compares answers and states; answers the number, none for a line that is no call.
+    /// Runs one line on both sides and compares answers and states; answers the number, none for a line that is no
+    /// call.
     pub fn run(&mut self, line: &[u8]) -> Result<Option<u64>, Difference> {
         let number = match (rust_script::parse(line), port_script::parse(line)) {
             (Some(rust), Some(port)) => {

@@ -1,5 +1,6 @@
-//! One script on two sides in one process: the crate `nibcobalt`, and the unchanged Rust. The answers are compared after every
-//! call, and so are both states, which are read from the library's memory and from the Rust's private fields.
+//! One script on two sides in one process: the crate `nibcobalt`, and the unchanged Rust. The answers are compared
+//! after every call, and so are both states, which are read from the library's memory and from the Rust's private
+//! fields.
 //!
 //! The reader of scripts is the comparison's own, compiled a second time over this crate's types.
 

@@ -1,4 +1,5 @@
-//! The memory of a counter, field by field: the structs of crates/counter_memory, with every flag and every enum a byte.
+//! The memory of a counter, field by field: the structs of crates/counter_memory, with every flag and every enum a
+//! byte.
 
 use nibcobalt::ffi::Counter;
 
@@ -247,6 +248,7 @@ const _: () = assert!(align_of::<Memory>() == align_of::<Counter>());
 
 /// The memory of a counter with its fields.
 pub fn fields(counter: &Counter) -> &Memory {
-    // SAFETY: both are `repr(C)` of the same size and alignment, and every field is a plain number, which may hold any bytes.
+    // SAFETY: both are `repr(C)` of the same size and alignment, and every field is a plain number, which may hold any
+    // bytes.
     unsafe { &*std::ptr::from_ref(counter).cast() }
 }

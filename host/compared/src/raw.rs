@@ -39,10 +39,12 @@ fn numbers(buffer: &Buffer) -> (u64, Vec<u64>) {
     let bytes = buffer.answer().chunks_exact(8);
     let all: Vec<u64> =
         bytes.map(|chunk| u64::from_le_bytes(chunk.try_into().expect("eight bytes"))).collect();
+    assert!(all[0] == 0 || all.len() == 11, "a refusal shows nothing");
     (all[0], all[11..].to_vec())
 }
 
-/// A line has the modifiers as bits of one number, signed numbers with their sign, and a button also where none has changed.
+/// A line has the modifiers as bits of one number, signed numbers with their sign, and a button also where none has
+/// changed.
 fn route_numbers(line: &[i128]) -> Vec<u64> {
     const MODIFIERS: usize = 10;
     const KIND: usize = 11;
@@ -89,7 +91,8 @@ impl Raw {
         numbers(&self.buffer).0
     }
 
-    /// Call 35 with a length of the buffer, which the crate always has: the refusal's number and how many hits there are.
+    /// Call 35 with a length of the buffer, which the crate always has: the refusal's number and how many hits there
+    /// are.
     pub fn hit_test(
         &mut self,
         memory: &Counter,

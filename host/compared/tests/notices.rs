@@ -10,7 +10,8 @@ use nibcobalt::{ArbitrationEvent, SurfaceHandle, ViewHandle};
 const VIEW: ViewHandle = ViewHandle { index: 0, generation: 7 };
 const PANEL: SurfaceHandle = SurfaceHandle { index: 0, generation: 7 };
 
-/// A state with something of everything: windows, views, panels, captures, a composition, registrations, traces, presses.
+/// A state with something of everything: windows, views, panels, captures, a composition, registrations, traces,
+/// presses.
 const FURNISHED: &[u8] = b"new_at 3 2 5 8 16 64 16 32 40 7
 create_window
 create_window
@@ -90,9 +91,9 @@ impl Copy {
     }
 }
 
-/// The lowest bit of each byte is changed. Every number of the state is the first to differ for some byte, so all of them are
-/// read from the memory, but for the zeros that stand where there is no handle or rectangle (14), and for a panel without
-/// registrations, which stand in one table for all panels.
+/// The lowest bit of each byte is changed. Every number of the state is the first to differ for some byte, so all of
+/// them are read from the memory, but for the zeros that stand where there is no handle or rectangle (14), and for a
+/// panel without registrations, which stand in one table for all panels.
 #[test]
 fn altered_memory_is_noticed() {
     let mut both = furnished();

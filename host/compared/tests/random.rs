@@ -1,7 +1,7 @@
 //! Generated scripts of all profiles on both sides: every answer and both whole states after every call.
 //!
-//! `NIBCOBALT_SCRIPTS` is how many scripts are run (500), `NIBCOBALT_CALLS` how many calls each has (200), `NIBCOBALT_SEED`
-//! the first seed (1).
+//! `NIBCOBALT_SCRIPTS` is how many scripts are run (500), `NIBCOBALT_CALLS` how many calls each has (200),
+//! `NIBCOBALT_SEED` the first seed (1).
 
 use std::collections::BTreeMap;
 

@@ -1,14 +1,24 @@
 //! The library's three functions and the memory that they take. All unsafe code of the crate stands here.
 //!
-//! Hosts need this module only if they write calls as numbers themselves; docs/HOSTING.md has the forms. Its functions are
-//! safe: a message may hold any numbers, and the memory of a counter is only written by the library.
+//! Hosts need this module only if they write calls as numbers themselves; docs/HOSTING.md has the forms. Its functions
+//! are safe: a message may hold any numbers, and the memory of a counter is only written by the library.
 
 use crate::GenerationalHandle;
 
-/// The status of a message that is no form of a call. Nothing is written then.
+/// The number of the library's interface, `NIBCOBALT_ABI` of the C header, which says when it rises.
+pub const ABI: u64 = 1;
+
+/// The status of a message whose numbers are malformed. Nothing is changed then.
 pub const MALFORMED: u64 = 1000;
-/// The status of a buffer with less than [`ANSWER_BYTES`]. Nothing is written then.
+/// The status of a buffer with less than [`ANSWER_BYTES`]. Nothing is changed then.
 pub const SHORT_BUFFER: u64 = 1001;
+
+/// The bytes of stack that [`start`] needs in the library.
+pub const STACK_START_COUNTER: usize = 269_392;
+/// The bytes of stack that [`call`] needs in the library.
+pub const STACK_CALL: usize = 1_621_488;
+/// The bytes of stack that [`route`] needs in the library.
+pub const STACK_ROUTE: usize = 1_034_880;
 
 /// The words of a counter's memory that are its registry.
 pub const REGISTRY_WORDS: usize = 5188;
@@ -23,9 +33,9 @@ pub const REGISTRATIONS: usize = 64;
 /// The bytes that a buffer for answers must have. Every answer fits: it is proved of the library.
 pub const ANSWER_BYTES: usize = 36_864;
 
-/// The memory of a counter: a registry and a router. It holds zeros, or what the library has written. Two counters are
-/// compared with the bytes between their fields.
-#[derive(Clone, Debug, Eq, PartialEq)]
+/// The memory of a counter: a registry and a router. It holds zeros, or what the library has written. Two counters
+/// cannot be compared: the bytes between their fields are not kept. What the calls read of them can be.
+#[derive(Clone, Debug)]
 #[repr(C, align(8))]
 pub struct Counter {
     registry: [u64; REGISTRY_WORDS],
@@ -208,15 +218,15 @@ extern "C" {
     ) -> Status;
 }
 
-/// Starts the registry and the router afresh. Answers 0, or the first refusal's number with nothing written.
+/// Starts the registry and the router afresh. Answers 0, or the first refusal's number with nothing changed.
 pub fn start(counter: &mut Counter, start: &Start) -> u64 {
     let mut start = *start;
-    // SAFETY: both references are exclusive, and the library reads and writes no more than these structs. Each flag in the
-    // memory of a counter is 0 or 1, since it holds zeros or what the library has written.
+    // SAFETY: both references are exclusive, and the library reads and writes no more than these structs. Each flag in
+    // the memory of a counter is 0 or 1, since it holds zeros or what the library has written.
     unsafe { nibcobalt_start_counter(counter, &mut start).number }
 }
 
-/// Makes any call. Answers 0 with the answer in the buffer, or [`MALFORMED`] or [`SHORT_BUFFER`] with nothing written.
+/// Makes any call. Answers 0 with the answer in the buffer, or [`MALFORMED`] or [`SHORT_BUFFER`] with nothing changed.
 pub fn call(counter: &mut Counter, message: &mut Message, buffer: &mut Buffer) -> u64 {
     let (answer, length) = (buffer.bytes.as_mut_ptr(), buffer.bytes.len());
     // SAFETY: as in `start`; every number of a message may be any number, and the buffer has so many bytes.

@@ -1,8 +1,8 @@
 //! The registry and the router of `vo-app-runtime`'s `composition.rs` and `platform_input.rs`, over the proved library.
 //!
-//! A host that uses the two files replaces `vo_app_runtime` and `vo_app_protocol` by `nibcobalt` in its imports. Names, types
-//! and signatures are the source's; the folder's README lists what differs. The library does all the work: this crate writes
-//! a call as numbers, hands it over with the memory of a counter, and reads the answer.
+//! A host that uses the two files replaces `vo_app_runtime` and `vo_app_protocol` by `nibcobalt` in its imports.
+//! Names, types and signatures are the source's; the folder's README lists what differs. The library does all the
+//! work: this crate writes a call as numbers, hands it over with the memory of a counter, and reads the answer.
 //!
 //! A call needs up to 1.6 MB of stack. A thread of the standard library has 2 MB; a smaller one is ended by the system.
 //!

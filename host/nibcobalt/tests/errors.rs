@@ -1,5 +1,7 @@
-//! Every refusal that a list of calls can reach from a start, through this crate, one place for each. The package `compared`
-//! holds that each call gives every one that it can.
+//! Every refusal that a list of calls can reach from a start, through this crate, one place for each. The package
+//! `compared` holds that each call gives every one that it can.
+
+use std::error::Error;
 
 use nibcobalt::composition::*;
 use nibcobalt::platform_input::*;
@@ -329,4 +331,15 @@ fn numbers_of_refusals() {
     assert_eq!(NotRouted::Capacity.number(), 40);
     assert_eq!(NotRouted::Composition(Refused::StaleView).number(), 9);
     assert_eq!(NotRouted::PortLimit.number(), 41);
+}
+
+#[test]
+fn words_of_refusals() {
+    assert_eq!(Refused::StaleView.to_string(), "the view is closed (refusal 9)");
+    assert_eq!(NotRouted::InvalidTilt.to_string(), "a tilt is beyond 90 degrees (refusal 36)");
+    assert!(NotRouted::InvalidTilt.source().is_none());
+    let routed = NotRouted::Composition(Refused::StaleView);
+    assert_eq!(routed.to_string(), "the registry refuses the event (refusal 9)");
+    let source = routed.source().expect("the registry's refusal");
+    assert_eq!(source.downcast_ref(), Some(&Refused::StaleView));
 }

@@ -1,240 +1,12 @@
-//! Messages at the level of the C header: which numbers are a call, and that nothing is written where they are none.
+//! Which numbers are a call, and that nothing is changed where they are malformed.
 
+mod messages;
+
+use messages::{forms, start, Host};
 use nibcobalt::ffi::{
-    self, Buffer, Counter, Message, Registration, RouteMessage, Start, ANSWER_BYTES, MALFORMED,
-    SHORT_BUFFER,
+    self, Buffer, Counter, Message, Registration, Start, ANSWER_BYTES, MALFORMED, SHORT_BUFFER,
 };
 use nibcobalt::GenerationalHandle;
-
-/// Each call's number and fields: `q` 64 bits, `u` 32 bits (also signed), `s` 16 bits, `c` 8 bits, `b` a flag, `2` to `5` so
-/// many choices, `o` an optional handle, `r` an optional rectangle, `m` an optional registration, `x` an optional button.
-const CALLS: [(u64, &str); 35] = [
-    (0, ""),
-    (1, "uu"),
-    (2, "uu"),
-    (3, "uuuuuuuuuuuuu3q"),
-    (4, "uu"),
-    (5, "uu3u4brruuuuuusb"),
-    (6, "uurruuuuuusbq"),
-    (7, "uu4q"),
-    (8, "uuoq"),
-    (9, "uuq"),
-    (10, "quuuuq"),
-    (11, "uuq"),
-    (12, "quuuuq"),
-    (13, "uuq"),
-    (14, "uuq"),
-    (15, "uuq"),
-    (16, "qu"),
-    (17, "uuq"),
-    (18, "uumq"),
-    (19, "uuqq"),
-    (21, "uu"),
-    (22, ""),
-    (24, "uu"),
-    (25, ""),
-    (26, "uu"),
-    (27, "uu"),
-    (28, "uu"),
-    (29, "uu"),
-    (30, "uu"),
-    (31, "uu"),
-    (32, ""),
-    (33, ""),
-    (34, ""),
-    (35, "uuuuq"),
-    (36, "uuuuuuuu"),
-];
-/// The fields of call 20 behind the view and the event's kind, by kind.
-const ARBITRATIONS: [&str; 11] = ["o", "", "quuo", "quu", "", "o", "", "o", "", "", "q"];
-/// The fields of call 23 before the payload's kind, and behind it by kind.
-const HEADER: &str = "qqquuuuqu5bbbbbb";
-const PAYLOADS: [&str; 10] =
-    ["u4uuuusssux", "uuuuu3", "2ub", "qb", "u", "4uuu", "b2", "b", "b", ""];
-
-/// The end of a field's range: the least number that is out of it.
-fn end(letter: char) -> Option<u64> {
-    match letter {
-        'q' => None,
-        'u' => Some(1 << 32),
-        's' => Some(1 << 16),
-        'c' => Some(1 << 8),
-        'b' => Some(2),
-        choices => choices.to_digit(10).map(u64::from),
-    }
-}
-
-/// The letters behind the flag of an optional field.
-fn inner(letter: char) -> Option<&'static str> {
-    match letter {
-        'o' => Some("uu"),
-        'r' => Some("uuuu"),
-        'm' => Some("q3s"),
-        'x' => Some("c"),
-        _ => None,
-    }
-}
-
-/// A call with all fields 0, what the end of each place is, and which places stand behind a flag of 0.
-struct Form {
-    numbers: Vec<u64>,
-    ends: Vec<Option<u64>>,
-    behind_flag: Vec<Option<usize>>,
-}
-
-impl Form {
-    fn of(number: u64) -> Self {
-        Self { numbers: vec![number], ends: vec![Some(0)], behind_flag: vec![None] }
-    }
-
-    fn place(&mut self, number: u64, end: Option<u64>, flag: Option<usize>) {
-        self.numbers.push(number);
-        self.ends.push(end);
-        self.behind_flag.push(flag);
-    }
-
-    fn fields(mut self, letters: &str) -> Self {
-        for letter in letters.chars() {
-            match inner(letter) {
-                Some(letters) => {
-                    let flag = self.numbers.len();
-                    self.place(0, end('b'), None);
-                    letters.chars().for_each(|letter| self.place(0, end(letter), Some(flag)));
-                }
-                None => self.place(0, end(letter), None),
-            }
-        }
-        self
-    }
-
-    /// A kind, which is not tried out of its range here.
-    fn kind(mut self, kind: u64) -> Self {
-        self.place(kind, Some(0), None);
-        self
-    }
-
-    fn call(&self) -> [u64; 32] {
-        let mut call = [0; 32];
-        call[..self.numbers.len()].copy_from_slice(&self.numbers);
-        call
-    }
-}
-
-fn forms() -> Vec<Form> {
-    let mut all: Vec<Form> =
-        CALLS.iter().map(|(number, letters)| Form::of(*number).fields(letters)).collect();
-    for (kind, letters) in (0..).zip(ARBITRATIONS) {
-        all.push(Form::of(20).fields("uu").kind(kind).fields(letters));
-    }
-    for (kind, letters) in (0..).zip(PAYLOADS) {
-        all.push(Form::of(23).fields(HEADER).kind(kind).fields(letters));
-    }
-    all
-}
-
-fn start() -> Start {
-    Start {
-        session: GenerationalHandle { index: 0, generation: 1 },
-        session_epoch: 1,
-        max_windows: 8,
-        max_views: 16,
-        max_surfaces: 64,
-        max_surfaces_per_view: 16,
-        max_trace_entries: 32,
-        first_revision: 0,
-        first_generation: 1,
-        max_active_bindings: 128,
-    }
-}
-
-/// A counter with a window, a view and a panel, a message, and a buffer that holds the last answer.
-struct Host {
-    counter: Box<Counter>,
-    message: Message,
-    buffer: Buffer,
-}
-
-impl Host {
-    fn open() -> Self {
-        let mut counter = Counter::zeroed();
-        assert_eq!(ffi::start(&mut counter, &start()), 0);
-        let mut host = Self { counter, message: Message::zeroed(), buffer: Buffer::default() };
-        host.accept(&[0]);
-        host.accept(&[2, 0, 1]);
-        let mut panel = [0; 25];
-        panel[..3].copy_from_slice(&[5, 0, 1]);
-        panel[5] = 2;
-        (panel[17], panel[20], panel[23], panel[24]) = (1 << 16, 1 << 16, 65_535, 1);
-        host.accept(&panel);
-        host
-    }
-
-    fn set(&mut self, numbers: &[u64]) {
-        self.message.call = [0; 32];
-        self.message.call[..numbers.len()].copy_from_slice(numbers);
-    }
-
-    /// The numbers of the answer.
-    fn numbers(&self) -> Vec<u64> {
-        let words = self.buffer.answer().chunks(8);
-        words.map(|word| u64::from_le_bytes(word.try_into().expect("eight bytes"))).collect()
-    }
-
-    /// The first two numbers of the answer.
-    fn answer(&self) -> [u64; 2] {
-        let numbers = self.numbers();
-        [numbers[0], numbers[1]]
-    }
-
-    /// The status of the message.
-    fn call(&mut self) -> u64 {
-        ffi::call(&mut self.counter, &mut self.message, &mut self.buffer)
-    }
-
-    /// The status of the message's numbers, handed in as a route.
-    fn route(&mut self) -> u64 {
-        let mut message = RouteMessage { call: self.message.call };
-        let status = ffi::route(&mut self.counter, &mut message, &mut self.buffer);
-        assert_eq!(message.call, self.message.call);
-        status
-    }
-
-    fn accept(&mut self, numbers: &[u64]) {
-        self.set(numbers);
-        assert_eq!(self.call(), 0, "{numbers:?}");
-        assert_eq!(self.answer()[0], 0, "{numbers:?}");
-    }
-
-    /// The message is a form, whatever it is answered; the counter is as before afterwards.
-    fn expect_form(&mut self, what: &str) {
-        let (counter, message) = (self.counter.clone(), self.message);
-        assert_eq!(self.call(), 0, "{what}: {:?}", message.call);
-        assert_eq!(self.buffer.answer().len() % 8, 0);
-        assert!(self.message == message, "{what}: the message is altered");
-        self.counter = counter;
-    }
-
-    /// Answers the status, and nothing is written.
-    fn expect_untouched(&mut self, status: u64, what: &str, function: fn(&mut Self) -> u64) {
-        let (counter, message) = (self.counter.clone(), self.message);
-        let buffer = self.buffer.clone();
-        assert_eq!(function(self), status, "{what}: {:?}", message.call);
-        assert!(self.counter == counter, "{what}: the counter is altered");
-        assert!(self.message == message, "{what}: the message is altered");
-        assert!(self.buffer == buffer, "{what}: the buffer is altered");
-    }
-
-    /// The message is no form, and nothing is written.
-    fn expect_malformed(&mut self, what: &str) {
-        self.expect_untouched(MALFORMED, what, Self::call);
-    }
-
-    /// The numbers are no form, whatever lists are beside, so that `route` does not take them either.
-    fn expect_malformed_numbers(&mut self, what: &str) {
-        self.expect_malformed(what);
-        self.expect_untouched(MALFORMED, what, Self::route);
-    }
-}
 
 #[test]
 fn every_field_is_held_to_its_range() {
@@ -396,9 +168,9 @@ fn a_short_buffer_is_refused_1001() {
 }
 
 #[test]
-fn a_refused_start_writes_nothing() {
+fn a_refused_start_changes_nothing() {
     let mut host = Host::open();
-    let before = host.counter.clone();
+    let before = host.state();
     let nobody = GenerationalHandle { index: 0, generation: 0 };
     let refused = [
         (2, Start { session: nobody, ..start() }),
@@ -415,7 +187,7 @@ fn a_refused_start_writes_nothing() {
     ];
     for (number, start) in refused {
         assert_eq!(ffi::start(&mut host.counter, &start), number, "{start:?}");
-        assert!(host.counter == before, "{start:?}");
+        assert!(host.state() == before, "{start:?}");
     }
     let fresh = Start { first_revision: 77, ..start() };
     assert_eq!(ffi::start(&mut host.counter, &fresh), 0);
@@ -434,20 +206,6 @@ fn memory_of_zeros_is_refused_42() {
         let number = if form.numbers[0] == 36 { 0 } else { 42 };
         assert_eq!(host.answer(), [number, 0], "{:?}", form.numbers);
     }
-}
-
-#[test]
-fn a_thread_of_two_megabytes_is_enough() {
-    let all_calls = || {
-        let mut host = Host::open();
-        for form in forms() {
-            host.message.call = form.call();
-            host.expect_form("all fields 0");
-        }
-    };
-    let thread =
-        std::thread::Builder::new().stack_size(2 << 20).spawn(all_calls).expect("a thread");
-    thread.join().expect("all calls");
 }
 
 #[test]

@@ -6,6 +6,13 @@ use crate::{
     PlatformInputError, SurfaceHandle, SynthesizedInputRelease,
 };
 
+/// What came of a routed event, the first number that its answer shows: its device is gone.
+pub const ROUTED_DISCONNECTED: u64 = 0;
+/// The event was arbitrated.
+pub const ROUTED_ARBITRATED: u64 = 1;
+/// The event's view lost its focus or is not seen any more.
+pub const ROUTED_VIEW_RELEASED: u64 = 2;
+
 /// An answer. What a call does not answer is none or empty.
 pub struct Answer<'a> {
     /// 0, or the refusal's number.

@@ -1,5 +1,8 @@
 //! Why a registry refuses a call.
 
+use std::error::Error;
+use std::fmt;
+
 /// A refusal. The source's cases in their order, then two of the port.
 #[derive(Clone, Copy, Debug, Eq, PartialEq)]
 pub enum CompositionError {
@@ -100,3 +103,40 @@ impl CompositionError {
         }
     }
 }
+
+/// What is wrong, in a few words, and the refusal's number.
+impl fmt::Display for CompositionError {
+    fn fmt(&self, formatter: &mut fmt::Formatter<'_>) -> fmt::Result {
+        let what = match self {
+            Self::InvalidConfig => "a limit is 0 or too great, or the first generation is 0",
+            Self::InvalidOwner => "the session is invalid or its epoch is 0",
+            Self::Capacity => "a table is full",
+            Self::PerViewCapacity => "the view has as many surfaces as it may have",
+            Self::InvalidWindow => "the handle never named a window",
+            Self::StaleWindow => "the window is closed",
+            Self::WindowInUse => "the window still has views",
+            Self::InvalidView => "the handle never named a view",
+            Self::StaleView => "the view is closed",
+            Self::ViewInUse => "the view still has surfaces",
+            Self::InvalidSurface => "the handle never named a surface",
+            Self::StaleSurface => "the surface is closed",
+            Self::InvalidGeometry => "a side of a rectangle or the determinant of the matrix is 0",
+            Self::InvalidMetrics => "the metrics contradict themselves",
+            Self::InvalidSurfaceState => "the surface is in another state",
+            Self::StaleSurfaceGeneration => "the surface is of another generation",
+            Self::WrongView => "the surface stands in another view",
+            Self::NotInteractive => {
+                "the surface does not take this input, or the pointer is invalid"
+            }
+            Self::TextUnsupported => "the surface does not accept text",
+            Self::RevisionConflict => "the expected revision is not the present one",
+            Self::RevisionExhausted => "the revision cannot rise any more",
+            Self::GenerationExhausted => "a slot's generation cannot rise any more",
+            Self::PortLimit => "a limit of the port is passed",
+            Self::Damaged => "the memory is damaged",
+        };
+        write!(formatter, "{what} (refusal {})", self.number())
+    }
+}
+
+impl Error for CompositionError {}

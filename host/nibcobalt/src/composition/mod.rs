@@ -1,4 +1,5 @@
-//! Windows, views and surfaces of a session, and which surfaces get an event: the names of the source's `composition.rs`.
+//! Windows, views and surfaces of a session, and which surfaces get an event: the names of the source's
+//! `composition.rs`.
 
 mod arbitration;
 mod error;

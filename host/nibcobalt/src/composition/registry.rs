@@ -7,8 +7,8 @@ use crate::codec::{calls, Answer, Form, Lent, Reader};
 use crate::ffi::{Counter, Start};
 use crate::{SessionHandle, SurfaceHandle, ViewHandle, WindowHandle};
 
-/// The windows, views and surfaces of a session. It may go to another thread, but two threads cannot share it, since reads
-/// lend its memory too:
+/// The windows, views and surfaces of a session. It may go to another thread, but two threads cannot share it, since
+/// reads lend its memory too:
 ///
 /// ```compile_fail
 /// fn shared<T: Sync>() {}
@@ -39,8 +39,8 @@ impl CompositionRegistry {
         Self::new_at(session, session_epoch, limits, 0, 1)
     }
 
-    /// Not in the source: an empty registry with a given first revision and a given generation of slots that are used first.
-    /// A generation of 0 is [`CompositionError::InvalidConfig`].
+    /// Not in the source: an empty registry with a given first revision and a given generation of slots that are used
+    /// first. A generation of 0 is [`CompositionError::InvalidConfig`].
     pub fn new_at(
         session: SessionHandle,
         session_epoch: u64,
@@ -216,8 +216,8 @@ impl CompositionRegistry {
         self.revise(calls::update_surface_input_policy(surface, input, expected_revision))
     }
 
-    /// Registers a surface for system shortcuts of its own view with priority 0, or for none where the mask is 0, and answers
-    /// the revision.
+    /// Registers a surface for system shortcuts of its own view with priority 0, or for none where the mask is 0, and
+    /// answers the revision.
     pub fn set_surface_system_shortcuts(
         &mut self,
         surface: SurfaceHandle,

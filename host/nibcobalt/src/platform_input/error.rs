@@ -1,5 +1,8 @@
 //! Why a router refuses an event.
 
+use std::error::Error;
+use std::fmt;
+
 use crate::CompositionError;
 
 /// A refusal. The source's cases, then two of the port.
@@ -27,7 +30,8 @@ pub enum PlatformInputError {
     Capacity,
     /// The registry refuses.
     Composition(CompositionError),
-    /// Not in the source: a limit of the port is passed. A router knows 32 devices and is started with at most 128 presses.
+    /// Not in the source: a limit of the port is passed. A router knows 32 devices and is started with at most 128
+    /// presses.
     PortLimit,
     /// Not in the source: the memory handed in is damaged. No list of calls leads there.
     Damaged,
@@ -77,6 +81,37 @@ impl PlatformInputError {
             DAMAGED => Self::Damaged,
             FIRST.. => ORDER[(number - FIRST) as usize],
             _ => Self::Composition(CompositionError::of(number)),
+        }
+    }
+}
+
+/// What is wrong, in a few words, and the refusal's number. What the registry says is the error's source.
+impl fmt::Display for PlatformInputError {
+    fn fmt(&self, formatter: &mut fmt::Formatter<'_>) -> fmt::Result {
+        let what = match self {
+            Self::InvalidDevice => "the device's value or generation is 0",
+            Self::InvalidSequence => "the sequence is 0 or not above the device's last",
+            Self::InvalidTimestamp => "the time is before the last one",
+            Self::InvalidPointer => "the contact is invalid",
+            Self::InvalidPressure => "the pressure is over 32,768",
+            Self::InvalidTilt => "a tilt is beyond 90 degrees",
+            Self::InvalidTextSelection => "the selection does not lie in the text",
+            Self::InvalidShortcut => "the shortcut has no class",
+            Self::InvalidWindow => "the event's window is not its view's",
+            Self::Capacity => "the open presses have reached their limit, or it is 0",
+            Self::Composition(_) => "the registry refuses the event",
+            Self::PortLimit => "a limit of the port is passed",
+            Self::Damaged => "the memory is damaged",
+        };
+        write!(formatter, "{what} (refusal {})", self.number())
+    }
+}
+
+impl Error for PlatformInputError {
+    fn source(&self) -> Option<&(dyn Error + 'static)> {
+        match self {
+            Self::Composition(refusal) => Some(refusal),
+            _ => None,
         }
     }
 }

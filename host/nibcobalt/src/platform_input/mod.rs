@@ -1,5 +1,5 @@
-//! Events of devices, the presses that they open, and what is released when a device, a view or a surface goes: the names of
-//! the source's `platform_input.rs`.
+//! Events of devices, the presses that they open, and what is released when a device, a view or a surface goes: the
+//! names of the source's `platform_input.rs`.
 
 mod error;
 mod event;

@@ -4,11 +4,13 @@ use std::cell::RefCell;
 
 use super::*;
 use crate::codec::{calls, events, expect_form, Answer, Lent};
+use crate::codec::{ROUTED_ARBITRATED, ROUTED_DISCONNECTED, ROUTED_VIEW_RELEASED};
 use crate::ffi::{self, Counter, RouteMessage, Start};
 use crate::ViewInputReleaseReport;
 use crate::{CompositionLimits, CompositionRegistry, SessionHandle, SurfaceHandle};
 
-/// The open presses of all devices, and which surface took each. It may go to another thread, but two threads cannot share it.
+/// The open presses of all devices, and which surface took each. It may go to another thread, but two threads cannot
+/// share it.
 ///
 /// ```compile_fail
 /// fn shared<T: Sync>() {}
@@ -36,7 +38,8 @@ const SOME_REGISTRY: Start = Start {
 };
 
 impl PlatformInputRouter {
-    /// Not in the source: the greatest limit that a start accepts here. A greater one is [`PlatformInputError::PortLimit`].
+    /// Not in the source: the greatest limit that a start accepts here. A greater one is
+    /// [`PlatformInputError::PortLimit`].
     pub const MOST_ACTIVE_BINDINGS: usize = 128;
 
     /// A router without open presses, which may have so many of them.
@@ -46,8 +49,8 @@ impl PlatformInputRouter {
         Ok(Self { lent: RefCell::new(lent) })
     }
 
-    /// Routes an event: checks it, finds the surfaces that get it, opens or ends its press, and lists the presses that a
-    /// disconnect or a view's loss ends.
+    /// Routes an event: checks it, finds the surfaces that get it, opens or ends its press, and lists the presses that
+    /// a disconnect or a view's loss ends.
     pub fn route(
         &mut self,
         composition: &mut CompositionRegistry,
@@ -84,26 +87,27 @@ impl PlatformInputRouter {
         answer.of_router().expect(ROUTER_IS_SOUND).more.count()
     }
 
-    /// Not in the source: the memory that the library works on, of which the router's part is the router. The function cannot
-    /// use the router itself.
+    /// Not in the source: the memory that the library works on, of which the router's part is the router. The function
+    /// cannot use the router itself.
     pub fn with_memory<T>(&self, look: impl FnOnce(&Counter) -> T) -> T {
         look(&self.lent.borrow().counter)
     }
 }
 
-/// What came of an accepted event: 0 a disconnect, 1 an arbitration, 2 a view's loss.
+/// What came of an accepted event.
 fn report(event: PlatformInputEvent, mut answer: Answer) -> PlatformInputRoutingReport {
     let composition_revision = answer.revision;
     let synthesized_releases = std::mem::take(&mut answer.releases);
     let (arbitration, view_release) = match answer.more.number() {
-        0 => (None, None),
-        1 => (Some(answer.arbitration()), None),
-        _ => {
+        ROUTED_DISCONNECTED => (None, None),
+        ROUTED_ARBITRATED => (Some(answer.arbitration()), None),
+        ROUTED_VIEW_RELEASED => {
             let view = answer.handle();
             let released = answer.more.input_state();
             let revision = composition_revision;
             (None, Some(ViewInputReleaseReport { view, released, revision }))
         }
+        other => panic!("{other} is no kind of a routed event"),
     };
     PlatformInputRoutingReport {
         event,

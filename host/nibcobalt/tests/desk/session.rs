@@ -1,5 +1,5 @@
-// Document 01's session at the desk, as its program writes it. This text is compiled over this crate and over the unchanged
-// Rust: only the imports before it differ.
+// Document 01's session at the desk, as its program writes it. This text is compiled over this crate and over the
+// unchanged Rust: only the imports before it differ.
 
 fn limits() -> CompositionLimits {
     CompositionLimits {

@@ -13,9 +13,9 @@ use Rattle.host_calls.proofs.any_call.Called as Done
 use Rattle.host_calls.proofs.any_call.call.Symbol as callee
 use Rattle.host_calls.proofs.any_call.call.Met as callee-met
 use Rattle.in_place.proofs.TwoLentBuffer.{entry}
-use Rattle.host.proofs.entries.nibcobalt_call.Key as own
-use Rattle.host.proofs.entries.nibcobalt_call.Statement.{statement}
-use Rattle.host.proofs.entries.nibcobalt_call.Code as code
+use Rattle.nibcobalt.proofs.entries.nibcobalt_call.Key as own
+use Rattle.nibcobalt.proofs.entries.nibcobalt_call.Statement.{statement}
+use Rattle.nibcobalt.proofs.entries.nibcobalt_call.Code as code
 
 pub nibcobalt-call-spec : {M : Type 1} → statement M
 unfolding code.routine

@@ -13,9 +13,9 @@ use Rattle.host_calls.proofs.fresh.Started as Done
 use Rattle.host_calls.proofs.fresh.start_counter.Symbol as callee
 use Rattle.host_calls.proofs.fresh.start_counter.Met as callee-met
 use Rattle.in_place.proofs.TwoLent.{entry}
-use Rattle.host.proofs.entries.nibcobalt_start_counter.Key as own
-use Rattle.host.proofs.entries.nibcobalt_start_counter.Statement.{statement}
-use Rattle.host.proofs.entries.nibcobalt_start_counter.Code as code
+use Rattle.nibcobalt.proofs.entries.nibcobalt_start_counter.Key as own
+use Rattle.nibcobalt.proofs.entries.nibcobalt_start_counter.Statement.{statement}
+use Rattle.nibcobalt.proofs.entries.nibcobalt_start_counter.Code as code
 
 pub nibcobalt-start-counter-spec : {M : Type 1} → statement M
 unfolding code.routine

@@ -13,9 +13,9 @@ use Rattle.host_calls.proofs.direct_route.RouteCalled as Done
 use Rattle.host_calls.proofs.direct_route.route.Symbol as callee
 use Rattle.host_calls.proofs.direct_route.route.Met as callee-met
 use Rattle.in_place.proofs.TwoLentBuffer.{entry}
-use Rattle.host.proofs.entries.nibcobalt_route.Key as own
-use Rattle.host.proofs.entries.nibcobalt_route.Statement.{statement}
-use Rattle.host.proofs.entries.nibcobalt_route.Code as code
+use Rattle.nibcobalt.proofs.entries.nibcobalt_route.Key as own
+use Rattle.nibcobalt.proofs.entries.nibcobalt_route.Statement.{statement}
+use Rattle.nibcobalt.proofs.entries.nibcobalt_route.Code as code
 
 pub nibcobalt-route-spec : {M : Type 1} → statement M
 unfolding code.routine
