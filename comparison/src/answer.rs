@@ -65,12 +65,12 @@ impl Answer {
     }
 }
 
-/// Document 01's numbers 1 to 22 are the declared order.
+/// REFUSALS.md's numbers 1 to 22 are the declared order.
 pub fn composition_number(error: CompositionError) -> u32 {
     error as u32 + 1
 }
 
-/// Document 01's numbers 31 to 40; a composition refusal keeps its own.
+/// REFUSALS.md's numbers 31 to 40; a composition refusal keeps its own.
 pub fn router_number(error: PlatformInputError) -> u32 {
     match error {
         PlatformInputError::InvalidDevice => 31,

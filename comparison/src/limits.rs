@@ -1,4 +1,4 @@
-//! Everything the driver decides itself because the Rust has no such limit: document 01's port
+//! Everything the driver decides itself because the Rust has no such limit: RULES.md's port
 //! limits (41) at their places in its orders, and the added start. Nothing else answers 41.
 //!
 //! A check here says nothing (`Ok`) when the Rust itself will refuse the call before the limit counts.
@@ -9,24 +9,24 @@ use crate::platform_input::access as router_access;
 use crate::platform_input::{PlatformInputEvent, PlatformInputRouter};
 use crate::*;
 
-/// Document 01, "Added: 41, a port limit is passed".
+/// RULES.md, Refusals: "41, a port limit is passed".
 pub const PORT_LIMIT: u32 = 41;
-/// Document 01, InvalidConfig: the number of a start with first generation 0.
+/// RULES.md, Start: the number of a start with first generation 0.
 const INVALID_CONFIG: u32 = 1;
 
-/// Document 01, "Port limits": windows 8, views 16, panels 64, 16 panels a view, 32 traces.
+/// RULES.md, Port limits: windows 8, views 16, panels 64, 16 panels a view, 32 traces.
 pub const START_LIMITS: [u64; 5] = [8, 16, 64, 16, 32];
-/// Document 01, "Port limits": 32 captures a view.
+/// RULES.md, Port limits: 32 captures a view.
 pub const CAPTURES_A_VIEW: usize = 32;
-/// Document 01, "Port limits": 32 known devices.
+/// RULES.md, Port limits: 32 known devices.
 pub const KNOWN_DEVICES: usize = 32;
-/// Document 01, "Port limits": 256 shortcut registrations in all after the call.
+/// RULES.md, Port limits: 256 shortcut registrations in all after the call.
 pub const REGISTRATIONS: usize = 256;
-/// Document 01, Arbitrate: "41 (over 16 hits handed in)".
+/// RULES.md, Arbitrate: "41 (over 16 hits handed in)".
 pub const HITS: usize = 16;
-/// Document 01, Hit test: "41 (buffer shorter than 32 numbers)".
+/// RULES.md, Hit test: "41 (buffer shorter than 32 numbers)".
 pub const SHORTEST_BUFFER: u64 = 32;
-/// Document 01, Router start: "over 128 bindings, 41".
+/// RULES.md, Start: "over 128 bindings, 41".
 pub const BINDINGS: u64 = 128;
 
 /// What the Rust is handed for a configured limit. Windows, views and panels over 4,294,967,295 are
@@ -36,7 +36,7 @@ fn handed_to_rust(limit: u64) -> usize {
     usize::try_from(limit).unwrap_or(usize::MAX)
 }
 
-/// Document 01, Start: "2 (invalid session or epoch 0), 1 (a limit is 0), 41", and the added start:
+/// RULES.md, Start: "2 (invalid session or epoch 0), 1 (a limit is 0), 41", and the added start:
 /// it takes the first revision and first slot generation, and generation 0 is 1.
 /// Answers the registry and the first slot generation.
 pub fn start(
@@ -66,7 +66,7 @@ pub fn start(
     Ok((registry, generation))
 }
 
-/// Document 01, Router start: over 128 bindings 41. A limit of 0 is 40 at the start, as in the Rust.
+/// RULES.md, Start: over 128 bindings 41. A limit of 0 is 40 at the start, as in the Rust.
 pub fn start_router(limit: u64) -> Result<PlatformInputRouter, u32> {
     let router = PlatformInputRouter::new(usize::try_from(limit).unwrap_or(usize::MAX))
         .map_err(router_number)?;
@@ -98,7 +98,7 @@ fn takes_input(policy: SurfaceInputPolicy) -> bool {
     matches!(policy, SurfaceInputPolicy::Interactive | SurfaceInputPolicy::Exclusive)
 }
 
-/// Document 01, shortcuts: 20, 11/12, 3, 18, 41, 21.
+/// RULES.md, Shortcuts: 20, 11/12, 3, 18, 41, 21.
 pub fn registrations(
     registry: &CompositionRegistry,
     surface: SurfaceHandle,
@@ -119,7 +119,7 @@ pub fn registrations(
     at_most(after, REGISTRATIONS)
 }
 
-/// Document 01, Capture: 20, 18 for a bad pointer, 11/12, 18, 8/9, 41, 21.
+/// RULES.md, Focus, captures, compositions: capture 20, 18 for a bad pointer, 11/12, 18, 8/9, 41, 21.
 /// The limit counts where the Rust would put a new pointer into a full map.
 pub fn capture(
     registry: &CompositionRegistry,
@@ -143,7 +143,7 @@ pub fn capture(
     at_most(captures.len() + usize::from(!known), CAPTURES_A_VIEW)
 }
 
-/// Document 01, Arbitrate: 8/9, 41 (over 16 hits handed in), 8/9, 21.
+/// RULES.md, Arbitrate: 8/9, 41 (over 16 hits handed in), 8/9, 21.
 pub fn hits(
     registry: &CompositionRegistry,
     view: ViewHandle,
@@ -160,7 +160,7 @@ pub fn hits(
     }
 }
 
-/// Document 01, Hit test: 8/9, 41 (buffer shorter than 32 numbers).
+/// RULES.md, Hit test: 8/9, 41 (buffer shorter than 32 numbers).
 pub fn buffer(registry: &CompositionRegistry, view: ViewHandle, length: u64) -> Result<(), u32> {
     if registry.view_window(view).is_ok() && length < SHORTEST_BUFFER {
         return Err(PORT_LIMIT);
@@ -168,7 +168,7 @@ pub fn buffer(registry: &CompositionRegistry, view: ViewHandle, length: u64) -> 
     Ok(())
 }
 
-/// Document 01, Route: 31, 8/9, 39, 20, 34 to 38, 40, 32, 33, 41 (unseen device, table full), the work.
+/// RULES.md, Route: 31, 8/9, 39, 20, 34 to 38, 40, 32, 33, 41 (unseen device, table full), the work.
 pub fn devices(
     router: &PlatformInputRouter,
     registry: &CompositionRegistry,

@@ -1,4 +1,4 @@
-//! The format's vectors, document 01's desk session and counter table, port limits, lines that are no calls.
+//! The format's vectors, RULES.md's Desk and Counter table, port limits, lines that are no calls.
 
 mod faults;
 mod programs;
@@ -237,7 +237,7 @@ fn the_other_port_limits() {
     assert_eq!(last_number(&(script.clone() + focus + &full)), "40");
 }
 
-/// Document 01's counter table, as far as calls show it.
+/// RULES.md, Counter table, as far as calls show it.
 #[test]
 fn counter_table() {
     let more = |line: &str| {

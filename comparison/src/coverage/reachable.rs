@@ -1,6 +1,6 @@
 //! The answers that each verb can give, from any start, to any list of calls.
 //!
-//! Document 01's orders, less what no list of calls reaches: 42 (no damaged state comes from a start), 8 of a panel's
+//! RULES.md's orders, less what no list of calls reaches: 42 (no damaged state comes from a start), 8 of a panel's
 //! own view (that view was live once), 15 and 16 (recovery is left out), the metrics' own 21 (its counter starts at 1).
 
 /// Each verb with its answers; 0 is accepted.

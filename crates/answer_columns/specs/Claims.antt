@@ -15,10 +15,14 @@ use Rattle.answer_columns.specs.Columns.{numberPieces, columnPieces}
 
 pub record ColumnClaims : Type 0 where
   -- where there is room for all of them, pieces are put as one text
-  pub one-text : (pieces : List (List ℕ)) (buf : List ℕ) (at : ℕ) → at + length (flatten pieces) ≤ length buf → putAll pieces (buf, at) ≡ put (flatten pieces) (buf, at)
+  pub one-text : (pieces : List (List ℕ)) (buf : List ℕ) (at : ℕ) → at + length (flatten pieces) ≤ length buf
+      → putAll pieces (buf, at) ≡ put (flatten pieces) (buf, at)
   -- so from the front of a buffer on they stand whole, and behind them what stood there
-  pub whole-text : (pieces : List (List ℕ)) (buf : List ℕ) → length (flatten pieces) ≤ length buf → putAll pieces (buf, 0) ≡ textThen (flatten pieces) buf
+  pub whole-text : (pieces : List (List ℕ)) (buf : List ℕ) → length (flatten pieces) ≤ length buf
+      → putAll pieces (buf, 0) ≡ textThen (flatten pieces) buf
   -- a refused call has `-` in columns 4 to 6
-  pub refused-blank : (k : Counter) (call : Call) (l : Lists) (calls revision : ℕ) → isRouterAccepted (stepped k call l .answer .outcome) ≡ false
+  pub refused-blank : (k : Counter) (call : Call) (l : Lists) (calls revision : ℕ)
+      → isRouterAccepted (stepped k call l .answer .outcome) ≡ false
       → columnPieces calls revision (stepped k call l .answer)
-      ≡ numberPieces calls (routerNumberOf (stepped k call l .answer .outcome)) revision ++ nonePieces ++ spacePieces ++ nonePieces ++ spacePieces ++ nonePieces
+      ≡ numberPieces calls (routerNumberOf (stepped k call l .answer .outcome)) revision ++ nonePieces ++ spacePieces
+      ++ nonePieces ++ spacePieces ++ nonePieces

@@ -1,4 +1,4 @@
--- Document 01, Program `desk`: columns 1 to 6 of an answer line.
+-- RULES.md, Desk: columns 1 to 6 of an answer line.
 use Prim.Native.Nat.{ℕ}
 use mathlib.Core.Bool.{Bool, true, false, cond}
 use mathlib.Core.List.{List, [], _∷_, _++_}
@@ -55,7 +55,8 @@ numberPieces calls number revision = cellPieces calls ++ cellPieces number ++ ce
 
 -- columns 4 and 5: the consumer and the deliveries
 abbrev pub arbitrationPieces : ArbitrationResult → List (List ℕ)
-arbitrationPieces a = optionalPieces (a .«consumed_by») ++ spacePieces ++ listPieces deliveryPieces (entriesOf deliveries (a .deliveries))
+arbitrationPieces a =
+    optionalPieces (a .«consumed_by») ++ spacePieces ++ listPieces deliveryPieces (entriesOf deliveries (a .deliveries))
 
 -- columns 1 to 6, with a space between
 unfoldable pub columnPieces : ℕ → ℕ → Answer → List (List ℕ)

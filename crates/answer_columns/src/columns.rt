@@ -15,7 +15,8 @@ use input_events::error::number;
 
 // Columns 1 to 3, each with the space behind it.
 fn put_numbers(out: &mut [u8], at: usize, calls: u64, number: u64, revision: u64) -> usize
-    ensures { λ r. ⌜ _≡_ {A = List ℕ × ℕ} (now (out .exit), r) (putAll (numberPieces calls number revision) (now (out .entry), at)) ⌝ }
+    ensures { λ r. ⌜ _≡_ {A = List ℕ × ℕ} (now (out .exit), r)
+        (putAll (numberPieces calls number revision) (now (out .entry), at)) ⌝ }
 {
     let a = put_cell(out, at, calls);
     let b = put_cell(out, a, number);
@@ -24,7 +25,8 @@ fn put_numbers(out: &mut [u8], at: usize, calls: u64, number: u64, revision: u64
 
 // Columns 4 and 5.
 fn put_arbitration(out: &mut [u8], at: usize, arbitration: ArbitrationResult) -> usize
-    ensures { λ r. ⌜ _≡_ {A = List ℕ × ℕ} (now (out .exit), r) (putAll (arbitrationPieces arbitration) (now (out .entry), at)) ⌝ }
+    ensures { λ r. ⌜ _≡_ {A = List ℕ × ℕ} (now (out .exit), r)
+        (putAll (arbitrationPieces arbitration) (now (out .entry), at)) ⌝ }
 {
     let consumer = arbitration.consumed_by;
     let a = put_optional_handle(out, at, consumer);
@@ -34,7 +36,8 @@ fn put_arbitration(out: &mut [u8], at: usize, arbitration: ArbitrationResult) ->
 
 // The number of the call, the answer, the revision after the call, the consumer, the deliveries and the releases.
 pub fn put_columns(out: &mut [u8], at: usize, calls: u64, revision: u64, answer: Answer) -> usize
-    ensures { λ r. ⌜ _≡_ {A = List ℕ × ℕ} (now (out .exit), r) (putAll (columnPieces calls revision answer) (now (out .entry), at)) ⌝ }
+    ensures { λ r. ⌜ _≡_ {A = List ℕ × ℕ} (now (out .exit), r)
+        (putAll (columnPieces calls revision answer) (now (out .entry), at)) ⌝ }
 {
     let outcome = answer.outcome;
     let a = put_numbers(out, at, calls, number(outcome), revision);

@@ -16,7 +16,8 @@ use records::trace::InputDelivery;
 
 // An observed delivery has an `o` behind it.
 fn put_delivery(out: &mut [u8], at: usize, delivery: InputDelivery) -> usize
-    ensures { λ r. ⌜ _≡_ {A = List ℕ × ℕ} (now (out .exit), r) (putAll (deliveryPieces delivery) (now (out .entry), at)) ⌝ }
+    ensures { λ r. ⌜ _≡_ {A = List ℕ × ℕ} (now (out .exit), r)
+        (putAll (deliveryPieces delivery) (now (out .entry), at)) ⌝ }
 {
     let end = put_handle(out, at, delivery.surface);
     if delivery.observed {
@@ -26,7 +27,8 @@ fn put_delivery(out: &mut [u8], at: usize, delivery: InputDelivery) -> usize
 }
 
 fn put_next_delivery(out: &mut [u8], at: usize, i: usize, delivery: InputDelivery) -> usize
-    ensures { λ r. ⌜ _≡_ {A = List ℕ × ℕ} (now (out .exit), r) (putAll (commaPieces i ++ deliveryPieces delivery) (now (out .entry), at)) ⌝ }
+    ensures { λ r. ⌜ _≡_ {A = List ℕ × ℕ} (now (out .exit), r)
+        (putAll (commaPieces i ++ deliveryPieces delivery) (now (out .entry), at)) ⌝ }
 {
     let next = put_comma(out, at, i);
     put_delivery(out, next, delivery)
@@ -44,7 +46,8 @@ fn count_deliveries(deliveries: Deliveries) -> usize
 }
 
 pub fn put_deliveries(out: &mut [u8], at: usize, deliveries: Deliveries) -> usize
-    ensures { λ r. ⌜ _≡_ {A = List ℕ × ℕ} (now (out .exit), r) (putAll (listPieces deliveryPieces (entriesOf deliveryTable deliveries)) (now (out .entry), at)) ⌝ }
+    ensures { λ r. ⌜ _≡_ {A = List ℕ × ℕ} (now (out .exit), r)
+        (putAll (listPieces deliveryPieces (entriesOf deliveryTable deliveries)) (now (out .entry), at)) ⌝ }
 {
     let n = count_deliveries(deliveries);
     if n == 0 {

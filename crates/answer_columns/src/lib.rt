@@ -1,4 +1,5 @@
-// Columns 1 to 7 of an answer line, of which the first six are document 01's desk table, and the pieces that they are made of.
+// Columns 1 to 7 of an answer line, of which the first six are those of RULES.md, Desk, and the pieces that they are
+// made of.
 pub mod columns;
 pub mod delivered;
 pub mod named;

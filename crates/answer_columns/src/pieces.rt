@@ -37,7 +37,8 @@ pub fn put_handle(out: &mut [u8], at: usize, handle: GenerationalHandle) -> usiz
 }
 
 pub fn put_optional_handle(out: &mut [u8], at: usize, handle: OptionalHandle) -> usize
-    ensures { λ r. ⌜ _≡_ {A = List ℕ × ℕ} (now (out .exit), r) (putAll (optionalPieces handle) (now (out .entry), at)) ⌝ }
+    ensures { λ r. ⌜ _≡_ {A = List ℕ × ℕ} (now (out .exit), r)
+        (putAll (optionalPieces handle) (now (out .entry), at)) ⌝ }
 {
     match handle {
         OptionalHandle::None => put_none(out, at),

@@ -62,7 +62,8 @@ fn put_key(out: &mut [u8], at: usize, key: BindingKey) -> usize
 }
 
 fn put_release(out: &mut [u8], at: usize, release: Binding) -> usize
-    ensures { λ r. ⌜ _≡_ {A = List ℕ × ℕ} (now (out .exit), r) (putAll (releasePieces release) (now (out .entry), at)) ⌝ }
+    ensures { λ r. ⌜ _≡_ {A = List ℕ × ℕ} (now (out .exit), r)
+        (putAll (releasePieces release) (now (out .entry), at)) ⌝ }
 {
     let key = release.key;
     let end = put_key(out, at, key);
@@ -71,7 +72,8 @@ fn put_release(out: &mut [u8], at: usize, release: Binding) -> usize
 }
 
 fn put_next_release(out: &mut [u8], at: usize, i: usize, release: Binding) -> usize
-    ensures { λ r. ⌜ _≡_ {A = List ℕ × ℕ} (now (out .exit), r) (putAll (commaPieces i ++ releasePieces release) (now (out .entry), at)) ⌝ }
+    ensures { λ r. ⌜ _≡_ {A = List ℕ × ℕ} (now (out .exit), r)
+        (putAll (commaPieces i ++ releasePieces release) (now (out .entry), at)) ⌝ }
 {
     let next = put_comma(out, at, i);
     put_release(out, next, release)
@@ -79,7 +81,8 @@ fn put_next_release(out: &mut [u8], at: usize, i: usize, release: Binding) -> us
 
 // The releases of a report.
 fn put_listed(out: &mut [u8], at: usize, listed: Releases) -> usize
-    ensures { λ r. ⌜ _≡_ {A = List ℕ × ℕ} (now (out .exit), r) (putAll (listPieces releasePieces (entriesOf releases listed)) (now (out .entry), at)) ⌝ }
+    ensures { λ r. ⌜ _≡_ {A = List ℕ × ℕ} (now (out .exit), r)
+        (putAll (listPieces releasePieces (entriesOf releases listed)) (now (out .entry), at)) ⌝ }
 {
     let n = listed.count();
     if n == 0 {
@@ -107,7 +110,8 @@ fn capture_release(capture: Capture) -> Binding
 
 // The captures of a device, of which there is one at least.
 fn put_captures(out: &mut [u8], at: usize, captures: CaptureList) -> usize
-    ensures { λ r. ⌜ _≡_ {A = List ℕ × ℕ} (now (out .exit), r) (putAll (entryPieces capturePieces (entriesOf captureList captures)) (now (out .entry), at)) ⌝ }
+    ensures { λ r. ⌜ _≡_ {A = List ℕ × ℕ} (now (out .exit), r)
+        (putAll (entryPieces capturePieces (entriesOf captureList captures)) (now (out .entry), at)) ⌝ }
 {
     let n = captures.count();
     let mut next = at;
@@ -122,7 +126,8 @@ fn put_captures(out: &mut [u8], at: usize, captures: CaptureList) -> usize
 
 // The captures that a call lists, or else the releases of its report.
 pub fn put_releases(out: &mut [u8], at: usize, listed: Releases, captures: CaptureList) -> usize
-    ensures { λ r. ⌜ _≡_ {A = List ℕ × ℕ} (now (out .exit), r) (putAll (releasesColumn listed captures) (now (out .entry), at)) ⌝ }
+    ensures { λ r. ⌜ _≡_ {A = List ℕ × ℕ} (now (out .exit), r)
+        (putAll (releasesColumn listed captures) (now (out .entry), at)) ⌝ }
 {
     if captures.count() == 0 {
         return put_listed(out, at, listed);

@@ -21,7 +21,8 @@ use Rattle.answer_columns.specs.Named.{handleFor, namedPieces}
 -- columns 1 to 8 of an answered call, from the start of the buffer
 abbrev pub answerTaken : ℕ → Call → Answer → Counter → List ℕ → List ℕ × ℕ
 answerTaken calls call a k buf =
-    morePlaced Column (moreOf call a k) (putAll (namedPieces (handleFor call a)) (putAll (columnPieces calls (k .registry .revision) a) (buf, 0)))
+    morePlaced Column (moreOf call a k)
+    (putAll (namedPieces (handleFor call a)) (putAll (columnPieces calls (k .registry .revision) a) (buf, 0)))
 
 -- columns 4 to 7 of a call that shows nothing: four times `-` (45) and a space (32)
 abbrev pub blankPieces : List (List ℕ)
@@ -37,7 +38,8 @@ plainPieces calls number revision = headPieces calls number revision ++ nonePiec
 
 -- a line that is no call is answered with `?` (63)
 abbrev pub noCallPieces : ℕ → ℕ → List (List ℕ)
-noCallPieces calls revision = cellPieces calls ++ ((63 ∷ 32 ∷ []) ∷ []) ++ cellPieces revision ++ blankPieces ++ nonePieces
+noCallPieces calls revision =
+    cellPieces calls ++ ((63 ∷ 32 ∷ []) ∷ []) ++ cellPieces revision ++ blankPieces ++ nonePieces
 
 -- `state` shows the whole dump of the registry, `router_state` that of the router
 abbrev pub stateTaken : ℕ → CompositionRegistry → List ℕ → List ℕ × ℕ
@@ -52,5 +54,7 @@ digestPieces n = spacePieces ++ (decimal n ∷ [])
 
 -- the digests where they are shown, and the line feed (10)
 abbrev pub endPieces : Counter → Bool → List (List ℕ)
-endPieces k true = digestPieces (dumpDigest (registryNumbers (k .registry))) ++ digestPieces (dumpDigest (routerNumbers (k .router))) ++ ((10 ∷ []) ∷ [])
+endPieces k true =
+    digestPieces (dumpDigest (registryNumbers (k .registry))) ++ digestPieces (dumpDigest (routerNumbers (k .router)))
+    ++ ((10 ∷ []) ∷ [])
 endPieces k false = (10 ∷ []) ∷ []

@@ -20,7 +20,8 @@ use router_dump::router::router_digest;
 
 // Columns 1 to 8, for the counter after the call.
 pub fn put_answer(out: &mut [u8], calls: u64, call: Call, answer: Answer, counter: Counter) -> usize
-    ensures { λ r. ⌜ _≡_ {A = List ℕ × ℕ} (now (out .exit), r) (answerTaken calls call answer counter (now (out .entry))) ⌝ }
+    ensures { λ r. ⌜ _≡_ {A = List ℕ × ℕ} (now (out .exit), r)
+        (answerTaken calls call answer counter (now (out .entry))) ⌝ }
 {
     let outcome = answer.outcome;
     let made = answer.made;
@@ -44,7 +45,8 @@ fn put_digest(out: &mut [u8], at: usize, digest: u64) -> usize
 
 // Columns 9 and 10 where they are shown, and the line feed.
 pub fn put_end(out: &mut [u8], at: usize, counter: Counter, are_shown: bool) -> usize
-    ensures { λ r. ⌜ _≡_ {A = List ℕ × ℕ} (now (out .exit), r) (putAll (endPieces counter «are_shown») (now (out .entry), at)) ⌝ }
+    ensures { λ r. ⌜ _≡_ {A = List ℕ × ℕ} (now (out .exit), r)
+        (putAll (endPieces counter «are_shown») (now (out .entry), at)) ⌝ }
 {
     if are_shown {
         let a = put_digest(out, at, registry_digest(counter.registry));

@@ -23,7 +23,8 @@ fn put_blank(out: &mut [u8], at: usize) -> usize
 
 // Columns 1 to 7.
 fn put_head(out: &mut [u8], calls: u64, number: u64, revision: u64) -> usize
-    ensures { λ r. ⌜ _≡_ {A = List ℕ × ℕ} (now (out .exit), r) (putAll (headPieces calls number revision) (now (out .entry), 0)) ⌝ }
+    ensures { λ r. ⌜ _≡_ {A = List ℕ × ℕ} (now (out .exit), r)
+        (putAll (headPieces calls number revision) (now (out .entry), 0)) ⌝ }
 {
     let a = put_cell(out, 0, calls);
     let b = put_cell(out, a, number);
@@ -33,7 +34,8 @@ fn put_head(out: &mut [u8], calls: u64, number: u64, revision: u64) -> usize
 
 // Columns 1 to 8 of a call that shows nothing.
 pub fn put_plain(out: &mut [u8], calls: u64, number: u64, revision: u64) -> usize
-    ensures { λ r. ⌜ _≡_ {A = List ℕ × ℕ} (now (out .exit), r) (putAll (plainPieces calls number revision) (now (out .entry), 0)) ⌝ }
+    ensures { λ r. ⌜ _≡_ {A = List ℕ × ℕ} (now (out .exit), r)
+        (putAll (plainPieces calls number revision) (now (out .entry), 0)) ⌝ }
 {
     let at = put_head(out, calls, number, revision);
     put_none(out, at)
@@ -41,7 +43,8 @@ pub fn put_plain(out: &mut [u8], calls: u64, number: u64, revision: u64) -> usiz
 
 // Columns 1 to 8 of a line that is no call.
 pub fn put_no_call(out: &mut [u8], calls: u64, revision: u64) -> usize
-    ensures { λ r. ⌜ _≡_ {A = List ℕ × ℕ} (now (out .exit), r) (putAll (noCallPieces calls revision) (now (out .entry), 0)) ⌝ }
+    ensures { λ r. ⌜ _≡_ {A = List ℕ × ℕ} (now (out .exit), r)
+        (putAll (noCallPieces calls revision) (now (out .entry), 0)) ⌝ }
 {
     let a = put_cell(out, 0, calls);
     let b = put_bytes(out, a, b"? ");
@@ -66,7 +69,8 @@ pub fn put_router_state(
     revision: u64,
     router: PlatformInputRouter,
 ) -> usize
-    ensures { λ r. ⌜ _≡_ {A = List ℕ × ℕ} (now (out .exit), r) (routerStateTaken calls revision router (now (out .entry))) ⌝ }
+    ensures { λ r. ⌜ _≡_ {A = List ℕ × ℕ} (now (out .exit), r)
+        (routerStateTaken calls revision router (now (out .entry))) ⌝ }
 {
     let at = put_head(out, calls, 0, revision);
     let end = take_router(out, sink_from(SinkKind::Dump, at), router);

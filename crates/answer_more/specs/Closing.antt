@@ -43,7 +43,9 @@ reportsNumbers t = listNumbers reportNumbers (entriesOf closeReports t)
 
 -- a shutdown: the closed panels; n, n × V; n, n × W
 abbrev pub shutdownNumbers : CompositionShutdownReport → List Number
-shutdownNumbers r = reportsNumbers (r .«closed_surfaces») ++ (handlesNumbers (r .«closed_views») ++ handlesNumbers (r .«closed_windows»))
+shutdownNumbers r =
+    reportsNumbers (r .«closed_surfaces»)
+    ++ (handlesNumbers (r .«closed_views») ++ handlesNumbers (r .«closed_windows»))
 
 -- a close shows C, a shutdown its whole report
 abbrev pub closingNumbers : CloseCall → SurfaceCloseReport → CompositionShutdownReport → List Number

@@ -30,7 +30,8 @@ shownHits t = plain (length (entriesOf hitTable t) / 2) ∷ each oneNumber (entr
 abbrev pub shownCounts : Counts → List Number
 shownCounts c =
     handleNumbers (c .session)
-    ++ (plain (c .«session_epoch») ∷ plain (c .revision) ∷ plain (c .windows) ∷ plain (c .views) ∷ plain (c .surfaces) ∷ [])
+    ++ (plain (c .«session_epoch») ∷ plain (c .revision) ∷ plain (c .windows) ∷ plain (c .views) ∷ plain (c .surfaces)
+    ∷ [])
 
 -- a point in a panel: 1, x, y
 abbrev pub pointNumbers : Point → List Number

@@ -46,7 +46,8 @@ fn count_releases(list: SurfaceReleases) -> usize
 }
 
 fn take_releases(out: &mut [u8], sink: Sink, list: SurfaceReleases) -> Sink
-    ensures { λ r. ⌜ _≡_ {A = List ℕ × Sink} (now (out .exit), r) (numbersTaken (releasesNumbers list) (now (out .entry), sink)) ⌝ }
+    ensures { λ r. ⌜ _≡_ {A = List ℕ × Sink} (now (out .exit), r)
+        (numbersTaken (releasesNumbers list) (now (out .entry), sink)) ⌝ }
 {
     let n = count_releases(list);
     let mut next = take_count(out, sink, n);
@@ -62,7 +63,8 @@ fn take_releases(out: &mut [u8], sink: Sink, list: SurfaceReleases) -> Sink
 
 // C: the releases of a closed panel, and the restored focus.
 fn take_closed(out: &mut [u8], sink: Sink, report: SurfaceCloseReport) -> Sink
-    ensures { λ r. ⌜ _≡_ {A = List ℕ × Sink} (now (out .exit), r) (numbersTaken (closeNumbers report) (now (out .entry), sink)) ⌝ }
+    ensures { λ r. ⌜ _≡_ {A = List ℕ × Sink} (now (out .exit), r)
+        (numbersTaken (closeNumbers report) (now (out .entry), sink)) ⌝ }
 {
     let restored = report.restored_focus;
     let next = take_releases(out, sink, report.releases);
@@ -71,7 +73,8 @@ fn take_closed(out: &mut [u8], sink: Sink, report: SurfaceCloseReport) -> Sink
 
 // A closed panel of a shutdown: its handle, C, and the revision after it.
 fn take_report(out: &mut [u8], sink: Sink, report: SurfaceCloseReport) -> Sink
-    ensures { λ r. ⌜ _≡_ {A = List ℕ × Sink} (now (out .exit), r) (numbersTaken (reportNumbers report) (now (out .entry), sink)) ⌝ }
+    ensures { λ r. ⌜ _≡_ {A = List ℕ × Sink} (now (out .exit), r)
+        (numbersTaken (reportNumbers report) (now (out .entry), sink)) ⌝ }
 {
     let a = take_handle(out, sink, report.surface);
     let b = take_closed(out, a, report);
@@ -89,7 +92,8 @@ fn count_reports(list: CloseReports) -> usize
 }
 
 fn take_reports(out: &mut [u8], sink: Sink, list: CloseReports) -> Sink
-    ensures { λ r. ⌜ _≡_ {A = List ℕ × Sink} (now (out .exit), r) (numbersTaken (reportsNumbers list) (now (out .entry), sink)) ⌝ }
+    ensures { λ r. ⌜ _≡_ {A = List ℕ × Sink} (now (out .exit), r)
+        (numbersTaken (reportsNumbers list) (now (out .entry), sink)) ⌝ }
 {
     let n = count_reports(list);
     let mut next = take_count(out, sink, n);
@@ -104,7 +108,8 @@ fn take_reports(out: &mut [u8], sink: Sink, list: CloseReports) -> Sink
 
 // The closed panels, then the views, then the windows.
 fn take_shutdown(out: &mut [u8], sink: Sink, report: CompositionShutdownReport) -> Sink
-    ensures { λ r. ⌜ _≡_ {A = List ℕ × Sink} (now (out .exit), r) (numbersTaken (shutdownNumbers report) (now (out .entry), sink)) ⌝ }
+    ensures { λ r. ⌜ _≡_ {A = List ℕ × Sink} (now (out .exit), r)
+        (numbersTaken (shutdownNumbers report) (now (out .entry), sink)) ⌝ }
 {
     let a = take_reports(out, sink, report.closed_surfaces);
     let b = take_handles(out, a, report.closed_views);
@@ -119,7 +124,8 @@ pub fn put_closing(
     closed: SurfaceCloseReport,
     shutdown: CompositionShutdownReport,
 ) -> usize
-    ensures { λ r. ⌜ _≡_ {A = List ℕ × ℕ} (now (out .exit), r) (placed «sink_kind» (closingNumbers call closed shutdown) (now (out .entry), at)) ⌝ }
+    ensures { λ r. ⌜ _≡_ {A = List ℕ × ℕ} (now (out .exit), r)
+        (placed «sink_kind» (closingNumbers call closed shutdown) (now (out .entry), at)) ⌝ }
 {
     let sink = sink_from(sink_kind, at);
     match call {

@@ -31,7 +31,8 @@ fn count_numbers(hits: HitNumbers) -> usize
 
 // How many hits there are, and the two numbers of each.
 pub fn take_hit_numbers(out: &mut [u8], sink: Sink, hits: HitNumbers) -> Sink
-    ensures { λ r. ⌜ _≡_ {A = List ℕ × Sink} (now (out .exit), r) (numbersTaken (shownHits hits) (now (out .entry), sink)) ⌝ }
+    ensures { λ r. ⌜ _≡_ {A = List ℕ × Sink} (now (out .exit), r)
+        (numbersTaken (shownHits hits) (now (out .entry), sink)) ⌝ }
 {
     let n = count_numbers(hits);
     let mut next = take_count(out, sink, n / 2);
@@ -44,7 +45,8 @@ pub fn take_hit_numbers(out: &mut [u8], sink: Sink, hits: HitNumbers) -> Sink
 }
 
 pub fn take_shown_counts(out: &mut [u8], sink: Sink, counts: Counts) -> Sink
-    ensures { λ r. ⌜ _≡_ {A = List ℕ × Sink} (now (out .exit), r) (numbersTaken (shownCounts counts) (now (out .entry), sink)) ⌝ }
+    ensures { λ r. ⌜ _≡_ {A = List ℕ × Sink} (now (out .exit), r)
+        (numbersTaken (shownCounts counts) (now (out .entry), sink)) ⌝ }
 {
     let a = take_handle(out, sink, counts.session);
     let b = take_plain(out, a, counts.session_epoch);
@@ -55,7 +57,8 @@ pub fn take_shown_counts(out: &mut [u8], sink: Sink, counts: Counts) -> Sink
 }
 
 fn take_point(out: &mut [u8], sink: Sink, point: Point) -> Sink
-    ensures { λ r. ⌜ _≡_ {A = List ℕ × Sink} (now (out .exit), r) (numbersTaken (pointNumbers point) (now (out .entry), sink)) ⌝ }
+    ensures { λ r. ⌜ _≡_ {A = List ℕ × Sink} (now (out .exit), r)
+        (numbersTaken (pointNumbers point) (now (out .entry), sink)) ⌝ }
 {
     let a = take_plain(out, sink, 1);
     let b = take_signed(out, a, point.x_milli);
@@ -64,7 +67,8 @@ fn take_point(out: &mut [u8], sink: Sink, point: Point) -> Sink
 
 // A point that lies nowhere in the panel is three zeros.
 pub fn take_local(out: &mut [u8], sink: Sink, local: LocalPoint) -> Sink
-    ensures { λ r. ⌜ _≡_ {A = List ℕ × Sink} (now (out .exit), r) (numbersTaken (localNumbers local) (now (out .entry), sink)) ⌝ }
+    ensures { λ r. ⌜ _≡_ {A = List ℕ × Sink} (now (out .exit), r)
+        (numbersTaken (localNumbers local) (now (out .entry), sink)) ⌝ }
 {
     match local {
         LocalPoint::At(point) => take_point(out, sink, point),

@@ -25,7 +25,8 @@ use input_releases::answer::RouteKind;
 
 // The metrics that an update made.
 fn put_metrics(out: &mut [u8], at: usize, sink_kind: SinkKind, metrics: OptionalMetrics) -> usize
-    ensures { λ r. ⌜ _≡_ {A = List ℕ × ℕ} (now (out .exit), r) (morePlaced «sink_kind» (metricsMore metrics) (now (out .entry), at)) ⌝ }
+    ensures { λ r. ⌜ _≡_ {A = List ℕ × ℕ} (now (out .exit), r)
+        (morePlaced «sink_kind» (metricsMore metrics) (now (out .entry), at)) ⌝ }
 {
     match metrics {
         OptionalMetrics::None => put_none(out, at, sink_kind),
@@ -38,7 +39,8 @@ fn put_metrics(out: &mut [u8], at: usize, sink_kind: SinkKind, metrics: Optional
 
 // What a suspend let go.
 fn put_state(out: &mut [u8], at: usize, sink_kind: SinkKind, state: OptionalInputState) -> usize
-    ensures { λ r. ⌜ _≡_ {A = List ℕ × ℕ} (now (out .exit), r) (morePlaced «sink_kind» (stateMore state) (now (out .entry), at)) ⌝ }
+    ensures { λ r. ⌜ _≡_ {A = List ℕ × ℕ} (now (out .exit), r)
+        (morePlaced «sink_kind» (stateMore state) (now (out .entry), at)) ⌝ }
 {
     match state {
         OptionalInputState::None => put_none(out, at, sink_kind),
@@ -51,7 +53,8 @@ fn put_state(out: &mut [u8], at: usize, sink_kind: SinkKind, state: OptionalInpu
 
 // What a view's loss let go.
 fn take_loss(out: &mut [u8], sink: Sink, state: OptionalInputState) -> Sink
-    ensures { λ r. ⌜ _≡_ {A = List ℕ × Sink} (now (out .exit), r) (numbersTaken (lossNumbers state) (now (out .entry), sink)) ⌝ }
+    ensures { λ r. ⌜ _≡_ {A = List ℕ × Sink} (now (out .exit), r)
+        (numbersTaken (lossNumbers state) (now (out .entry), sink)) ⌝ }
 {
     let next = take_plain(out, sink, 2);
     match state {
@@ -68,7 +71,8 @@ fn put_event(
     kind: RouteKind,
     state: OptionalInputState,
 ) -> usize
-    ensures { λ r. ⌜ _≡_ {A = List ℕ × ℕ} (now (out .exit), r) (morePlaced «sink_kind» (eventMore kind state) (now (out .entry), at)) ⌝ }
+    ensures { λ r. ⌜ _≡_ {A = List ℕ × ℕ} (now (out .exit), r)
+        (morePlaced «sink_kind» (eventMore kind state) (now (out .entry), at)) ⌝ }
 {
     let sink = sink_from(sink_kind, at);
     match kind {
@@ -96,7 +100,8 @@ fn put_routed(
     kind: RouteKind,
     state: OptionalInputState,
 ) -> usize
-    ensures { λ r. ⌜ _≡_ {A = List ℕ × ℕ} (now (out .exit), r) (morePlaced «sink_kind» (routerMore call kind state) (now (out .entry), at)) ⌝ }
+    ensures { λ r. ⌜ _≡_ {A = List ℕ × ℕ} (now (out .exit), r)
+        (morePlaced «sink_kind» (routerMore call kind state) (now (out .entry), at)) ⌝ }
 {
     match call {
         RouterCall::Route(_) => put_event(out, at, sink_kind, kind, state),
@@ -114,7 +119,8 @@ pub fn put_more(
     answer: Answer,
     counter: Counter,
 ) -> usize
-    ensures { λ r. ⌜ _≡_ {A = List ℕ × ℕ} (now (out .exit), r) (morePlaced «sink_kind» (moreOf call answer counter) (now (out .entry), at)) ⌝ }
+    ensures { λ r. ⌜ _≡_ {A = List ℕ × ℕ} (now (out .exit), r)
+        (morePlaced «sink_kind» (moreOf call answer counter) (now (out .entry), at)) ⌝ }
 {
     let outcome = answer.outcome;
     if outcome.is_accepted() {} else {

@@ -30,7 +30,8 @@ use registry_dump::views::take_captures;
 use registry_dump::views::take_view_layers;
 
 fn take_captures_of(out: &mut [u8], sink: Sink, views: ViewTable, view: GenerationalHandle) -> Sink
-    ensures { λ r. ⌜ _≡_ {A = List ℕ × Sink} (now (out .exit), r) (numbersTaken (capturesNumbers (viewAt views view .«pointer_captures»)) (now (out .entry), sink)) ⌝ }
+    ensures { λ r. ⌜ _≡_ {A = List ℕ × Sink} (now (out .exit), r)
+        (numbersTaken (capturesNumbers (viewAt views view .«pointer_captures»)) (now (out .entry), sink)) ⌝ }
 {
     let record = views.record(view);
     let captures = record.pointer_captures;
@@ -44,7 +45,8 @@ fn take_layers_of(
     surfaces: SurfaceTable,
     view: GenerationalHandle,
 ) -> Sink
-    ensures { λ r. ⌜ _≡_ {A = List ℕ × Sink} (now (out .exit), r) (numbersTaken (viewLayersNumbers (viewAt views view .surfaces) surfaces) (now (out .entry), sink)) ⌝ }
+    ensures { λ r. ⌜ _≡_ {A = List ℕ × Sink} (now (out .exit), r)
+        (numbersTaken (viewLayersNumbers (viewAt views view .surfaces) surfaces) (now (out .entry), sink)) ⌝ }
 {
     let record = views.record(view);
     let layers = record.surfaces;
@@ -60,7 +62,8 @@ pub fn put_shown(
     hits: HitNumbers,
     registry: CompositionRegistry,
 ) -> usize
-    ensures { λ r. ⌜ _≡_ {A = List ℕ × ℕ} (now (out .exit), r) (morePlaced «sink_kind» (shownMore shown hits registry) (now (out .entry), at)) ⌝ }
+    ensures { λ r. ⌜ _≡_ {A = List ℕ × ℕ} (now (out .exit), r)
+        (morePlaced «sink_kind» (shownMore shown hits registry) (now (out .entry), at)) ⌝ }
 {
     let sink = sink_from(sink_kind, at);
     match shown {

@@ -16,4 +16,5 @@ pub record NumberClaims : Type 0 where
   -- a digest leaves the buffer as it is
   pub digest-leaves : (l : List Number) (s : List ℕ × Sink) → s .1 .kind ≡ Digest → numbersTaken l s .0 ≡ s .0
   -- what a digest sink has taken in is the digest of the dump
-  pub digest-taken : (l : List Number) (buf : List ℕ) (at : ℕ) → valueOf (numbersTaken l (buf, sinkFrom Digest at) .1 .digest) ≡ dumpDigest l
+  pub digest-taken : (l : List Number) (buf : List ℕ) (at : ℕ)
+      → valueOf (numbersTaken l (buf, sinkFrom Digest at) .1 .digest) ≡ dumpDigest l

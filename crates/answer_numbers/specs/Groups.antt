@@ -42,7 +42,8 @@ captureNumbers e = pointerNumbers (e .pointer) ++ handleNumbers (e .surface)
 -- R: a flag, and the rectangle or zeros
 abbrev pub rectNumbers : OptionalRect → List Number
 rectNumbers R.None = plain 0 ∷ plain 0 ∷ plain 0 ∷ plain 0 ∷ plain 0 ∷ []
-rectNumbers (R.Some r) = plain 1 ∷ signed (r .«x_milli») ∷ signed (r .«y_milli») ∷ plain (r .«width_milli») ∷ plain (r .«height_milli») ∷ []
+rectNumbers (R.Some r) =
+    plain 1 ∷ signed (r .«x_milli») ∷ signed (r .«y_milli») ∷ plain (r .«width_milli») ∷ plain (r .«height_milli») ∷ []
 
 -- ViewVisibility: Visible, Hidden, Suspended, from 0
 abbrev pub visibilityNumber : ViewVisibility → ℕ
@@ -65,7 +66,8 @@ policyNumber Exclusive = 3
 
 -- insets: top, right, bottom, left
 abbrev pub insetsNumbers : ViewInsets → List Number
-insetsNumbers i = plain (i .«top_milli») ∷ plain (i .«right_milli») ∷ plain (i .«bottom_milli») ∷ plain (i .«left_milli») ∷ []
+insetsNumbers i =
+    plain (i .«top_milli») ∷ plain (i .«right_milli») ∷ plain (i .«bottom_milli») ∷ plain (i .«left_milli») ∷ []
 
 -- the first part of M: revision, origin x y
 abbrev pub originNumbers : ViewMetrics → List Number
@@ -83,11 +85,14 @@ sizeNumbers m =
 
 -- M: revision, origin x y, width, height, framebuffer width, height, scale, top, right, bottom, left, visibility
 abbrev pub metricsNumbers : ViewMetrics → List Number
-metricsNumbers m = originNumbers m ++ (sizeNumbers m ++ (insetsNumbers (m .«safe_area») ++ (plain (visibilityNumber (m .visibility)) ∷ [])))
+metricsNumbers m =
+    originNumbers m ++ (sizeNumbers m
+    ++ (insetsNumbers (m .«safe_area») ++ (plain (visibilityNumber (m .visibility)) ∷ [])))
 
 -- I: focus, single capture field, composition
 abbrev pub inputStateNumbers : ViewInputState → List Number
-inputStateNumbers s = optionalNumbers (s .focused) ++ (optionalNumbers (s .«pointer_capture») ++ optionalNumbers (s .ime))
+inputStateNumbers s =
+    optionalNumbers (s .focused) ++ (optionalNumbers (s .«pointer_capture») ++ optionalNumbers (s .ime))
 
 -- the matrix, row by row, and the translation
 abbrev pub transformNumbers : SurfaceTransform → List Number
@@ -102,10 +107,13 @@ transformNumbers t =
 
 -- G: bounds, clip, matrix and translation, opacity, hit testing
 abbrev pub geometryNumbers : SurfaceGeometry → List Number
-geometryNumbers g = rectNumbers (g .bounds) ++ (rectNumbers (g .clip) ++ (transformNumbers (g .transform) ++ (plain (g .«opacity_q16») ∷ flag (g .«hit_test_enabled») ∷ [])))
+geometryNumbers g =
+    rectNumbers (g .bounds) ++ (rectNumbers (g .clip)
+    ++ (transformNumbers (g .transform) ++ (plain (g .«opacity_q16») ∷ flag (g .«hit_test_enabled») ∷ [])))
 
 -- D: view, kind, z_order, policy, accepts text, G
 abbrev pub descriptorNumbers : SurfaceDescriptor → List Number
 descriptorNumbers d =
     handleNumbers (d .view)
-    ++ (plain (kindNumber (d .kind)) ∷ signed (d .«z_order») ∷ plain (policyNumber (d .input)) ∷ flag (d .«accepts_text») ∷ geometryNumbers (d .geometry))
+    ++ (plain (kindNumber (d .kind)) ∷ signed (d .«z_order») ∷ plain (policyNumber (d .input))
+    ∷ flag (d .«accepts_text») ∷ geometryNumbers (d .geometry))

@@ -1,4 +1,5 @@
--- Numbers taken into a sink: as a column of an answer line, as a dump that is written out, as the digest of a dump, or as words for a host.
+-- Numbers taken into a sink: as a column of an answer line, as a dump that is written out, as the digest of a dump, or
+-- as words for a host.
 use Prim.Native.Nat.{ℕ, zero, suc, _+_, _-_, _/_, _%_}
 use mathlib.Core.Bool.{Bool, true, false, cond}
 use mathlib.Core.List.{List, [], _∷_, _++_, map}
@@ -70,7 +71,8 @@ wordTaken n s =
     let t = put (word n) (s .0, s .1 .at) in
     (t .0, sinkAfter (s .1) (t .1) (s .1 .digest))
 
--- a column and a dump write the number; a digest takes in what a dump would write, and leaves the buffer; words are a dump's numbers, each as eight bytes
+-- a column and a dump write the number; a digest takes in what a dump would write, and leaves the buffer; words are a
+-- dump's numbers, each as eight bytes
 abbrev pub takenAs : SinkKind → Number → List ℕ × Sink → List ℕ × Sink
 takenAs kind.Column n s = textTaken (putNumber n) s
 takenAs kind.Dump n s = textTaken (put (decimal (dumpedNumber n))) s

@@ -29,14 +29,16 @@ use records::view::ViewInputState;
 
 // H: index, generation.
 pub fn take_handle(out: &mut [u8], sink: Sink, h: GenerationalHandle) -> Sink
-    ensures { λ r. ⌜ _≡_ {A = List ℕ × Sink} (now (out .exit), r) (numbersTaken (handleNumbers h) (now (out .entry), sink)) ⌝ }
+    ensures { λ r. ⌜ _≡_ {A = List ℕ × Sink} (now (out .exit), r)
+        (numbersTaken (handleNumbers h) (now (out .entry), sink)) ⌝ }
 {
     let next = take_u32(out, sink, h.index);
     take_u32(out, next, h.generation)
 }
 
 fn take_flagged(out: &mut [u8], sink: Sink, f: bool, h: GenerationalHandle) -> Sink
-    ensures { λ r. ⌜ _≡_ {A = List ℕ × Sink} (now (out .exit), r) (numbersTaken (flag f ∷ handleNumbers h) (now (out .entry), sink)) ⌝ }
+    ensures { λ r. ⌜ _≡_ {A = List ℕ × Sink} (now (out .exit), r)
+        (numbersTaken (flag f ∷ handleNumbers h) (now (out .entry), sink)) ⌝ }
 {
     let next = take_flag(out, sink, f);
     take_handle(out, next, h)
@@ -44,7 +46,8 @@ fn take_flagged(out: &mut [u8], sink: Sink, f: bool, h: GenerationalHandle) -> S
 
 // O: a flag, then the handle or zeros.
 pub fn take_optional(out: &mut [u8], sink: Sink, value: OptionalHandle) -> Sink
-    ensures { λ r. ⌜ _≡_ {A = List ℕ × Sink} (now (out .exit), r) (numbersTaken (optionalNumbers value) (now (out .entry), sink)) ⌝ }
+    ensures { λ r. ⌜ _≡_ {A = List ℕ × Sink} (now (out .exit), r)
+        (numbersTaken (optionalNumbers value) (now (out .entry), sink)) ⌝ }
 {
     match value {
         OptionalHandle::None => take_flagged(
@@ -62,7 +65,8 @@ pub fn take_optional(out: &mut [u8], sink: Sink, value: OptionalHandle) -> Sink
 
 // K: device, device generation, contact.
 pub fn take_pointer(out: &mut [u8], sink: Sink, p: CompositionPointerId) -> Sink
-    ensures { λ r. ⌜ _≡_ {A = List ℕ × Sink} (now (out .exit), r) (numbersTaken (pointerNumbers p) (now (out .entry), sink)) ⌝ }
+    ensures { λ r. ⌜ _≡_ {A = List ℕ × Sink} (now (out .exit), r)
+        (numbersTaken (pointerNumbers p) (now (out .entry), sink)) ⌝ }
 {
     let a = take_plain(out, sink, p.device);
     let b = take_u32(out, a, p.device_generation);
@@ -71,7 +75,8 @@ pub fn take_pointer(out: &mut [u8], sink: Sink, p: CompositionPointerId) -> Sink
 
 // K, H.
 pub fn take_capture(out: &mut [u8], sink: Sink, entry: Capture) -> Sink
-    ensures { λ r. ⌜ _≡_ {A = List ℕ × Sink} (now (out .exit), r) (numbersTaken (captureNumbers entry) (now (out .entry), sink)) ⌝ }
+    ensures { λ r. ⌜ _≡_ {A = List ℕ × Sink} (now (out .exit), r)
+        (numbersTaken (captureNumbers entry) (now (out .entry), sink)) ⌝ }
 {
     let key = entry.pointer;
     let surface = entry.surface;
@@ -80,7 +85,8 @@ pub fn take_capture(out: &mut [u8], sink: Sink, entry: Capture) -> Sink
 }
 
 fn take_no_rect(out: &mut [u8], sink: Sink) -> Sink
-    ensures { λ r. ⌜ _≡_ {A = List ℕ × Sink} (now (out .exit), r) (numbersTaken (rectNumbers R.None) (now (out .entry), sink)) ⌝ }
+    ensures { λ r. ⌜ _≡_ {A = List ℕ × Sink} (now (out .exit), r)
+        (numbersTaken (rectNumbers R.None) (now (out .entry), sink)) ⌝ }
 {
     let a = take_plain(out, sink, 0);
     let b = take_plain(out, a, 0);
@@ -90,7 +96,8 @@ fn take_no_rect(out: &mut [u8], sink: Sink) -> Sink
 }
 
 fn take_some_rect(out: &mut [u8], sink: Sink, rect: SurfaceRect) -> Sink
-    ensures { λ r. ⌜ _≡_ {A = List ℕ × Sink} (now (out .exit), r) (numbersTaken (rectNumbers (R.Some rect)) (now (out .entry), sink)) ⌝ }
+    ensures { λ r. ⌜ _≡_ {A = List ℕ × Sink} (now (out .exit), r)
+        (numbersTaken (rectNumbers (R.Some rect)) (now (out .entry), sink)) ⌝ }
 {
     let a = take_plain(out, sink, 1);
     let b = take_signed(out, a, rect.x_milli);
@@ -101,7 +108,8 @@ fn take_some_rect(out: &mut [u8], sink: Sink, rect: SurfaceRect) -> Sink
 
 // R: a flag, then the rectangle or zeros.
 fn take_rect(out: &mut [u8], sink: Sink, value: OptionalRect) -> Sink
-    ensures { λ r. ⌜ _≡_ {A = List ℕ × Sink} (now (out .exit), r) (numbersTaken (rectNumbers value) (now (out .entry), sink)) ⌝ }
+    ensures { λ r. ⌜ _≡_ {A = List ℕ × Sink} (now (out .exit), r)
+        (numbersTaken (rectNumbers value) (now (out .entry), sink)) ⌝ }
 {
     match value {
         OptionalRect::None => take_no_rect(out, sink),
@@ -120,7 +128,8 @@ fn visibility_number(visibility: ViewVisibility) -> u64
 }
 
 fn take_insets(out: &mut [u8], sink: Sink, i: ViewInsets) -> Sink
-    ensures { λ r. ⌜ _≡_ {A = List ℕ × Sink} (now (out .exit), r) (numbersTaken (insetsNumbers i) (now (out .entry), sink)) ⌝ }
+    ensures { λ r. ⌜ _≡_ {A = List ℕ × Sink} (now (out .exit), r)
+        (numbersTaken (insetsNumbers i) (now (out .entry), sink)) ⌝ }
 {
     let a = take_u32(out, sink, i.top_milli);
     let b = take_u32(out, a, i.right_milli);
@@ -129,7 +138,8 @@ fn take_insets(out: &mut [u8], sink: Sink, i: ViewInsets) -> Sink
 }
 
 fn take_origin(out: &mut [u8], sink: Sink, m: ViewMetrics) -> Sink
-    ensures { λ r. ⌜ _≡_ {A = List ℕ × Sink} (now (out .exit), r) (numbersTaken (originNumbers m) (now (out .entry), sink)) ⌝ }
+    ensures { λ r. ⌜ _≡_ {A = List ℕ × Sink} (now (out .exit), r)
+        (numbersTaken (originNumbers m) (now (out .entry), sink)) ⌝ }
 {
     let a = take_plain(out, sink, m.revision);
     let b = take_signed(out, a, m.origin_x_milli);
@@ -137,7 +147,8 @@ fn take_origin(out: &mut [u8], sink: Sink, m: ViewMetrics) -> Sink
 }
 
 fn take_size(out: &mut [u8], sink: Sink, m: ViewMetrics) -> Sink
-    ensures { λ r. ⌜ _≡_ {A = List ℕ × Sink} (now (out .exit), r) (numbersTaken (sizeNumbers m) (now (out .entry), sink)) ⌝ }
+    ensures { λ r. ⌜ _≡_ {A = List ℕ × Sink} (now (out .exit), r)
+        (numbersTaken (sizeNumbers m) (now (out .entry), sink)) ⌝ }
 {
     let a = take_u32(out, sink, m.width_milli);
     let b = take_u32(out, a, m.height_milli);
@@ -148,7 +159,8 @@ fn take_size(out: &mut [u8], sink: Sink, m: ViewMetrics) -> Sink
 
 // M: the 13 numbers of a view's metrics.
 pub fn take_metrics(out: &mut [u8], sink: Sink, m: ViewMetrics) -> Sink
-    ensures { λ r. ⌜ _≡_ {A = List ℕ × Sink} (now (out .exit), r) (numbersTaken (metricsNumbers m) (now (out .entry), sink)) ⌝ }
+    ensures { λ r. ⌜ _≡_ {A = List ℕ × Sink} (now (out .exit), r)
+        (numbersTaken (metricsNumbers m) (now (out .entry), sink)) ⌝ }
 {
     let area = m.safe_area;
     let visibility = m.visibility;
@@ -160,7 +172,8 @@ pub fn take_metrics(out: &mut [u8], sink: Sink, m: ViewMetrics) -> Sink
 
 // I: focus, single capture field, composition.
 pub fn take_input_state(out: &mut [u8], sink: Sink, state: ViewInputState) -> Sink
-    ensures { λ r. ⌜ _≡_ {A = List ℕ × Sink} (now (out .exit), r) (numbersTaken (inputStateNumbers state) (now (out .entry), sink)) ⌝ }
+    ensures { λ r. ⌜ _≡_ {A = List ℕ × Sink} (now (out .exit), r)
+        (numbersTaken (inputStateNumbers state) (now (out .entry), sink)) ⌝ }
 {
     let focused = state.focused;
     let pointer_capture = state.pointer_capture;
@@ -171,7 +184,8 @@ pub fn take_input_state(out: &mut [u8], sink: Sink, state: ViewInputState) -> Si
 }
 
 fn take_transform(out: &mut [u8], sink: Sink, t: SurfaceTransform) -> Sink
-    ensures { λ r. ⌜ _≡_ {A = List ℕ × Sink} (now (out .exit), r) (numbersTaken (transformNumbers t) (now (out .entry), sink)) ⌝ }
+    ensures { λ r. ⌜ _≡_ {A = List ℕ × Sink} (now (out .exit), r)
+        (numbersTaken (transformNumbers t) (now (out .entry), sink)) ⌝ }
 {
     let a = take_signed(out, sink, t.m11_q16);
     let b = take_signed(out, a, t.m12_q16);
@@ -183,7 +197,8 @@ fn take_transform(out: &mut [u8], sink: Sink, t: SurfaceTransform) -> Sink
 
 // G: the 18 numbers of a panel's geometry.
 fn take_geometry(out: &mut [u8], sink: Sink, g: SurfaceGeometry) -> Sink
-    ensures { λ r. ⌜ _≡_ {A = List ℕ × Sink} (now (out .exit), r) (numbersTaken (geometryNumbers g) (now (out .entry), sink)) ⌝ }
+    ensures { λ r. ⌜ _≡_ {A = List ℕ × Sink} (now (out .exit), r)
+        (numbersTaken (geometryNumbers g) (now (out .entry), sink)) ⌝ }
 {
     let bounds = g.bounds;
     let clip = g.clip;
@@ -218,7 +233,8 @@ fn policy_number(input: SurfaceInputPolicy) -> u64
 
 // D: the 24 numbers of a panel's descriptor.
 pub fn take_descriptor(out: &mut [u8], sink: Sink, descriptor: SurfaceDescriptor) -> Sink
-    ensures { λ r. ⌜ _≡_ {A = List ℕ × Sink} (now (out .exit), r) (numbersTaken (descriptorNumbers descriptor) (now (out .entry), sink)) ⌝ }
+    ensures { λ r. ⌜ _≡_ {A = List ℕ × Sink} (now (out .exit), r)
+        (numbersTaken (descriptorNumbers descriptor) (now (out .entry), sink)) ⌝ }
 {
     let view = descriptor.view;
     let kind = descriptor.kind;

@@ -16,7 +16,8 @@ use records::layers::Layers;
 
 // The layers of a view, lowest first.
 pub fn take_layers(out: &mut [u8], sink: Sink, layers: Layers) -> Sink
-    ensures { λ r. ⌜ _≡_ {A = List ℕ × Sink} (now (out .exit), r) (numbersTaken (layersNumbers layers) (now (out .entry), sink)) ⌝ }
+    ensures { λ r. ⌜ _≡_ {A = List ℕ × Sink} (now (out .exit), r)
+        (numbersTaken (layersNumbers layers) (now (out .entry), sink)) ⌝ }
 {
     let n = layers.count();
     let mut next = take_count(out, sink, n);
@@ -41,7 +42,8 @@ fn count_handles(handles: Handles) -> usize
 }
 
 pub fn take_handles(out: &mut [u8], sink: Sink, handles: Handles) -> Sink
-    ensures { λ r. ⌜ _≡_ {A = List ℕ × Sink} (now (out .exit), r) (numbersTaken (handlesNumbers handles) (now (out .entry), sink)) ⌝ }
+    ensures { λ r. ⌜ _≡_ {A = List ℕ × Sink} (now (out .exit), r)
+        (numbersTaken (handlesNumbers handles) (now (out .entry), sink)) ⌝ }
 {
     let n = count_handles(handles);
     let mut next = take_count(out, sink, n);

@@ -14,7 +14,8 @@ use answer_text::put::put_byte;
 use answer_text::put::put_i32;
 use answer_text::put::put_u64;
 
-// A column writes a signed number with its sign; the others add 2^31 to it. A word is eight bytes, and words have nothing between them.
+// A column writes a signed number with its sign; the others add 2^31 to it. A word is eight bytes, and words have
+// nothing between them.
 pub enum SinkKind {
     Column,
     Dump,
@@ -56,7 +57,8 @@ fn after(sink: Sink, at: usize, digest: Digest) -> Sink
 
 // A comma stands between two numbers.
 fn separate(out: &mut [u8], sink: Sink) -> usize
-    ensures { λ r. ⌜ _≡_ {A = List ℕ × ℕ} (now (out .exit), r) (separated (sink .«is_first») (now (out .entry), sink .at)) ⌝ }
+    ensures { λ r. ⌜ _≡_ {A = List ℕ × ℕ} (now (out .exit), r)
+        (separated (sink .«is_first») (now (out .entry), sink .at)) ⌝ }
 {
     if sink.is_first {
         return sink.at;
@@ -72,7 +74,8 @@ fn raise(n: i32) -> u64
 }
 
 fn put_plain(out: &mut [u8], sink: Sink, n: u64) -> Sink
-    ensures { λ r. ⌜ _≡_ {A = List ℕ × Sink} (now (out .exit), r) (textTaken (put (decimal n)) (now (out .entry), sink)) ⌝ }
+    ensures { λ r. ⌜ _≡_ {A = List ℕ × Sink} (now (out .exit), r)
+        (textTaken (put (decimal n)) (now (out .entry), sink)) ⌝ }
 {
     let digest = sink.digest;
     let at = separate(out, sink);
@@ -81,7 +84,8 @@ fn put_plain(out: &mut [u8], sink: Sink, n: u64) -> Sink
 }
 
 fn put_signed(out: &mut [u8], sink: Sink, n: i32) -> Sink
-    ensures { λ r. ⌜ _≡_ {A = List ℕ × Sink} (now (out .exit), r) (textTaken (putInteger n) (now (out .entry), sink)) ⌝ }
+    ensures { λ r. ⌜ _≡_ {A = List ℕ × Sink} (now (out .exit), r)
+        (textTaken (putInteger n) (now (out .entry), sink)) ⌝ }
 {
     let digest = sink.digest;
     let at = separate(out, sink);
@@ -105,7 +109,8 @@ fn add_word(out: &mut [u8], sink: Sink, n: u64) -> Sink
 }
 
 pub fn take_plain(out: &mut [u8], sink: Sink, n: u64) -> Sink
-    ensures { λ r. ⌜ _≡_ {A = List ℕ × Sink} (now (out .exit), r) (numbersTaken (plain n ∷ []) (now (out .entry), sink)) ⌝ }
+    ensures { λ r. ⌜ _≡_ {A = List ℕ × Sink} (now (out .exit), r)
+        (numbersTaken (plain n ∷ []) (now (out .entry), sink)) ⌝ }
 {
     let kind = sink.kind;
     match kind {
@@ -117,7 +122,8 @@ pub fn take_plain(out: &mut [u8], sink: Sink, n: u64) -> Sink
 }
 
 pub fn take_signed(out: &mut [u8], sink: Sink, n: i32) -> Sink
-    ensures { λ r. ⌜ _≡_ {A = List ℕ × Sink} (now (out .exit), r) (numbersTaken (signed n ∷ []) (now (out .entry), sink)) ⌝ }
+    ensures { λ r. ⌜ _≡_ {A = List ℕ × Sink} (now (out .exit), r)
+        (numbersTaken (signed n ∷ []) (now (out .entry), sink)) ⌝ }
 {
     let kind = sink.kind;
     match kind {
@@ -130,7 +136,8 @@ pub fn take_signed(out: &mut [u8], sink: Sink, n: i32) -> Sink
 
 // A flag is 0 or 1.
 pub fn take_flag(out: &mut [u8], sink: Sink, f: bool) -> Sink
-    ensures { λ r. ⌜ _≡_ {A = List ℕ × Sink} (now (out .exit), r) (numbersTaken (flag f ∷ []) (now (out .entry), sink)) ⌝ }
+    ensures { λ r. ⌜ _≡_ {A = List ℕ × Sink} (now (out .exit), r)
+        (numbersTaken (flag f ∷ []) (now (out .entry), sink)) ⌝ }
 {
     if f {
         return take_plain(out, sink, 1);
@@ -139,14 +146,16 @@ pub fn take_flag(out: &mut [u8], sink: Sink, f: bool) -> Sink
 }
 
 pub fn take_u32(out: &mut [u8], sink: Sink, n: u32) -> Sink
-    ensures { λ r. ⌜ _≡_ {A = List ℕ × Sink} (now (out .exit), r) (numbersTaken (plain n ∷ []) (now (out .entry), sink)) ⌝ }
+    ensures { λ r. ⌜ _≡_ {A = List ℕ × Sink} (now (out .exit), r)
+        (numbersTaken (plain n ∷ []) (now (out .entry), sink)) ⌝ }
 {
     take_plain(out, sink, n as u64)
 }
 
 // The count of a list that comes after it.
 pub fn take_count(out: &mut [u8], sink: Sink, n: usize) -> Sink
-    ensures { λ r. ⌜ _≡_ {A = List ℕ × Sink} (now (out .exit), r) (numbersTaken (plain n ∷ []) (now (out .entry), sink)) ⌝ }
+    ensures { λ r. ⌜ _≡_ {A = List ℕ × Sink} (now (out .exit), r)
+        (numbersTaken (plain n ∷ []) (now (out .entry), sink)) ⌝ }
 {
     take_plain(out, sink, n as u64)
 }

@@ -43,7 +43,8 @@ pub fn put_bytes(buf: &mut [u8], at: usize, s: &[u8]) -> usize
 
 // As many of the first bytes as there is room for.
 pub fn put_clipped(buf: &mut [u8], at: usize, s: &[u8]) -> usize
-    ensures { λ r. ⌜ _≡_ {A = List ℕ × ℕ} (now (buf .exit), r) (put (take (length (now (buf .entry)) - at) (now (s .entry))) (now (buf .entry), at)) ⌝ }
+    ensures { λ r. ⌜ _≡_ {A = List ℕ × ℕ} (now (buf .exit), r)
+        (put (take (length (now (buf .entry)) - at) (now (s .entry))) (now (buf .entry), at)) ⌝ }
 {
     if buf.len() <= at {
         return put_bytes(buf, at, &s[..0]);
@@ -81,7 +82,8 @@ fn places(n: u64) -> usize
 
 fn put_digits(buf: &mut [u8], at: usize, n: u64, k: usize)
     requires { ⌜ at + k ≤ length (now buf) ⌝ }
-    ensures { λ _. ⌜ now (buf .exit) ≡ take at (now (buf .entry)) ++ lastDigits k n ++ drop (at + k) (now (buf .entry)) ⌝ }
+    ensures { λ _. ⌜ now (buf .exit)
+        ≡ take at (now (buf .entry)) ++ lastDigits k n ++ drop (at + k) (now (buf .entry)) ⌝ }
 {
     let mut j = k;
     let mut rest = n;

@@ -1,4 +1,5 @@
--- The answer of a call as numbers for a host: what `replay` shows in its columns 2 to 8, with how many entries stand before each list.
+-- The answer of a call as numbers for a host: what `replay` shows in its columns 2 to 8, with how many entries stand
+-- before each list.
 use Prim.Native.Nat.{ℕ}
 use mathlib.Core.List.{List, [], _∷_, _++_, flatten, map}
 use mathlib.Core.Option.{Option, none, some}
@@ -43,12 +44,15 @@ capturesNumbers l = listNumbers captureNumbers (entriesOf captureList l)
 abbrev pub arbitrationNumbers : ArbitrationResult → List Number
 arbitrationNumbers x = optionalNumbers (x .«consumed_by») ++ deliveriesNumbers (x .deliveries)
 
--- the answer's number, the revision after the call, the arbitration, the releases, the captures, the handle that is named
+-- the answer's number, the revision after the call, the arbitration, the releases, the captures, the handle that is
+-- named
 abbrev pub answerNumbers : ℕ → Answer → OptionalHandle → List Number
 answerNumbers revision a named =
     plain (routerNumberOf (a .outcome))
     ∷ plain revision
-    ∷ (arbitrationNumbers (a .report .arbitration) ++ (releasesNumbers (a .report .«synthesized_releases») ++ (capturesNumbers (a .listed .captures) ++ optionalNumbers named)))
+    ∷ (arbitrationNumbers (a .report .arbitration)
+    ++ (releasesNumbers (a .report .«synthesized_releases»)
+    ++ (capturesNumbers (a .listed .captures) ++ optionalNumbers named)))
 
 -- what a call shows, and nothing where it shows nothing
 abbrev pub shownNumbers : Option (List Number) → List Number

@@ -1,4 +1,4 @@
--- How long each list of an answer is at most, by the call. Document 01's port limits: 16 panels a view, 32 captures in
+-- How long each list of an answer is at most, by the call. RULES.md, Port limits: 16 panels a view, 32 captures in
 -- each of 16 views, 32 traces, 128 presses in a router; an arena has 64 slots.
 use Prim.Native.Nat.{ℕ, _+_, _*_, _≤_}
 use lib.ListN.{length}

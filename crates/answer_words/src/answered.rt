@@ -23,7 +23,8 @@ use input_events::error::number;
 use registry_dump::traces::take_deliveries;
 
 fn take_arbitration(out: &mut [u8], sink: Sink, result: ArbitrationResult) -> Sink
-    ensures { λ r. ⌜ _≡_ {A = List ℕ × Sink} (now (out .exit), r) (numbersTaken (arbitrationNumbers result) (now (out .entry), sink)) ⌝ }
+    ensures { λ r. ⌜ _≡_ {A = List ℕ × Sink} (now (out .exit), r)
+        (numbersTaken (arbitrationNumbers result) (now (out .entry), sink)) ⌝ }
 {
     let consumer = result.consumed_by;
     let next = take_optional(out, sink, consumer);
@@ -38,7 +39,8 @@ fn take_answer(
     answer: Answer,
     named: OptionalHandle,
 ) -> Sink
-    ensures { λ r. ⌜ _≡_ {A = List ℕ × Sink} (now (out .exit), r) (numbersTaken (answerNumbers revision answer named) (now (out .entry), sink)) ⌝ }
+    ensures { λ r. ⌜ _≡_ {A = List ℕ × Sink} (now (out .exit), r)
+        (numbersTaken (answerNumbers revision answer named) (now (out .entry), sink)) ⌝ }
 {
     let outcome = answer.outcome;
     let a = take_plain(out, sink, number(outcome));

@@ -30,7 +30,8 @@ fn take_released(out: &mut [u8], sink: Sink, key: MapKey) -> Sink
 
 // What is released, then its panel: six numbers whatever the kind.
 fn take_release(out: &mut [u8], sink: Sink, release: Binding) -> Sink
-    ensures { λ r. ⌜ _≡_ {A = List ℕ × Sink} (now (out .exit), r) (numbersTaken (releaseNumbers release) (now (out .entry), sink)) ⌝ }
+    ensures { λ r. ⌜ _≡_ {A = List ℕ × Sink} (now (out .exit), r)
+        (numbersTaken (releaseNumbers release) (now (out .entry), sink)) ⌝ }
 {
     let key = release.key;
     let next = take_released(out, sink, binding_key(key));
@@ -38,7 +39,8 @@ fn take_release(out: &mut [u8], sink: Sink, release: Binding) -> Sink
 }
 
 pub fn take_releases(out: &mut [u8], sink: Sink, list: Releases) -> Sink
-    ensures { λ r. ⌜ _≡_ {A = List ℕ × Sink} (now (out .exit), r) (numbersTaken (releasesNumbers list) (now (out .entry), sink)) ⌝ }
+    ensures { λ r. ⌜ _≡_ {A = List ℕ × Sink} (now (out .exit), r)
+        (numbersTaken (releasesNumbers list) (now (out .entry), sink)) ⌝ }
 {
     let n = list.count();
     let mut next = take_count(out, sink, n);
@@ -52,7 +54,8 @@ pub fn take_releases(out: &mut [u8], sink: Sink, list: Releases) -> Sink
 }
 
 pub fn take_captures(out: &mut [u8], sink: Sink, list: CaptureList) -> Sink
-    ensures { λ r. ⌜ _≡_ {A = List ℕ × Sink} (now (out .exit), r) (numbersTaken (capturesNumbers list) (now (out .entry), sink)) ⌝ }
+    ensures { λ r. ⌜ _≡_ {A = List ℕ × Sink} (now (out .exit), r)
+        (numbersTaken (capturesNumbers list) (now (out .entry), sink)) ⌝ }
 {
     let n = list.count();
     let mut next = take_count(out, sink, n);

@@ -1,4 +1,4 @@
--- Document 01, Book: "It keeps presses and captures with their panels, and panels' views; all start empty."
+-- RULES.md, Book: "It keeps presses and captures with their panels, and panels' views; all start empty."
 use Prim.Native.Nat.{ℕ}
 use mathlib.Core.Bool.{Bool, false, not, _&&_}
 use mathlib.Core.List.{List, [], _∷_}

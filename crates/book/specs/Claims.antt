@@ -1,4 +1,4 @@
--- The book tried on examples: one for each sentence of document 01's paragraphs Presses, Release order and Book. Behind
+-- The book tried on examples: one for each sentence of RULES.md, Presses, Release order and Book. Behind
 -- "not:" stands a wrong rule that the example refuses. What the router alone forgets (sequences, the time) is no part
 -- of the book.
 use mathlib.Core.Path.{_≡_}
@@ -127,7 +127,8 @@ pub record OrderClaims (l : Lists) : Type 0 where
   -- ---- "Pointers by device, generation, contact; keys by device, generation, key; gamepads by device, generation"
   -- not: by generation before device (6.9); by contact before generation (7.2.0); in the order of the Downs
   pub pointers-by-device : after l (eventOf (deviceAt 7 1) firstView (contactPayload 3 P.Down)) (takenBy paySheet)
-      (pressed (finger 6 9 5 seatMap ∷ finger 7 1 4 seatMap ∷ finger 7 2 0 seatMap ∷ finger 8 1 0 seatMap ∷ [])) .presses
+      (pressed (finger 6 9 5 seatMap ∷ finger 7 1 4 seatMap ∷ finger 7 2 0 seatMap ∷ finger 8 1 0 seatMap
+      ∷ [])) .presses
       ≡ finger 6 9 5 seatMap ∷ finger 7 1 3 paySheet ∷ finger 7 1 4 seatMap ∷ finger 7 2 0 seatMap
       ∷ finger 8 1 0 seatMap ∷ []
   pub keys-by-device : after l (keyEvent 7 1 K.Down false) (takenBy paySheet) (pressed (keyOn 6 9 40 seatMap

@@ -1,4 +1,4 @@
--- Document 01, Release order: what tells devices, presses and panels apart, and their orders. The book says this for
+-- RULES.md, Release order: what tells devices, presses and panels apart, and their orders. The book says this for
 -- itself and takes no test of the router; that the router's tests and orders are these is proved in `history`.
 use Prim.Native.Nat.{ℕ}
 use mathlib.Core.Bool.{Bool, true, false}

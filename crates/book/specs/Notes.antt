@@ -1,4 +1,4 @@
--- Document 01, Presses and Book: what a call with its answer changes in the book.
+-- RULES.md, Presses and Book: what a call with its answer changes in the book.
 use mathlib.Core.Bool.{Bool, true, false, not, cond}
 use mathlib.Core.List.{List, []}
 use mathlib.Core.Option.{Option, none, some}

@@ -1,4 +1,4 @@
--- Document 01, Release order: what a call concerns, what it has to list of that, and in which order, read from the book
+-- RULES.md, Release order: what a call concerns, what it has to list of that, and in which order, read from the book
 -- before it.
 use mathlib.Core.Bool.{Bool, true, false, not, cond, _&&_, _||_}
 use mathlib.Core.List.{List, [], _∷_, _++_, map}

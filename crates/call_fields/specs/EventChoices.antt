@@ -67,7 +67,8 @@ wheelUnitNumber wheelUnit.Page = 2
 
 -- a composition's phase
 abbrev pub compositionPhases : List CompositionPhase
-compositionPhases = compositionPhase.Start ∷ compositionPhase.Update ∷ compositionPhase.End ∷ compositionPhase.Cancel ∷ []
+compositionPhases =
+    compositionPhase.Start ∷ compositionPhase.Update ∷ compositionPhase.End ∷ compositionPhase.Cancel ∷ []
 
 unfoldable pub compositionPhaseOf : ℕ → CompositionPhase
 compositionPhaseOf n = getD compositionPhases n compositionPhase.Start

@@ -1,4 +1,5 @@
--- Handles, pointers, optional fields and registrations, by their numbers. An optional field is a flag, and behind a flag of 0 stand zeros.
+-- Handles, pointers, optional fields and registrations, by their numbers. An optional field is a flag, and behind a
+-- flag of 0 stand zeros.
 use Prim.Native.Nat.{ℕ}
 use mathlib.Core.Bool.{cond}
 use mir.Syntax.{w16, w32}
@@ -45,12 +46,24 @@ deviceOf v g = record { value = v; generation = within 4294967296 g }
 unfoldable pub rectOf : RectNumbers → OptionalRect
 rectOf n =
     cond (isOne (n .present))
-    (rect.Some (record { «x_milli» = signedOf (n .«x_milli») .value; «y_milli» = signedOf (n .«y_milli») .value; «width_milli» = within 4294967296 (n .«width_milli»); «height_milli» = within 4294967296 (n .«height_milli») }))
+    (rect.Some (record {
+      «x_milli» = signedOf (n .«x_milli») .value;
+      «y_milli» = signedOf (n .«y_milli») .value;
+      «width_milli» = within 4294967296 (n .«width_milli»);
+      «height_milli» = within 4294967296 (n .«height_milli»);
+    }))
     rect.None
 
 abbrev pub rectNumbers : OptionalRect → RectNumbers
 rectNumbers rect.None = record { present = 0; «x_milli» = 0; «y_milli» = 0; «width_milli» = 0; «height_milli» = 0 }
-rectNumbers (rect.Some r) = record { present = 1; «x_milli» = ofZ w32 (r .«x_milli»); «y_milli» = ofZ w32 (r .«y_milli»); «width_milli» = r .«width_milli»; «height_milli» = r .«height_milli» }
+rectNumbers (rect.Some r) =
+    record {
+      present = 1;
+      «x_milli» = ofZ w32 (r .«x_milli»);
+      «y_milli» = ofZ w32 (r .«y_milli»);
+      «width_milli» = r .«width_milli»;
+      «height_milli» = r .«height_milli»;
+    }
 
 abbrev pub buttonOf : ButtonNumbers → OptionalButton
 buttonOf n = cond (isOne (n .present)) (button.Some (within 256 (n .button))) button.None
@@ -61,14 +74,17 @@ buttonNumbers (button.Some b) = record { present = 1; button = b }
 
 -- class mask, scope, priority
 abbrev pub registrationOf : RegistrationNumbers → SurfaceShortcutRegistration
-registrationOf n = record { «class_mask» = n .«class_mask»; scope = scopeOf (n .scope); priority = shortOf (n .priority) .value }
+registrationOf n =
+    record { «class_mask» = n .«class_mask»; scope = scopeOf (n .scope); priority = shortOf (n .priority) .value }
 
 abbrev pub registrationNumbers : SurfaceShortcutRegistration → RegistrationNumbers
-registrationNumbers r = record { «class_mask» = r .«class_mask»; scope = scopeNumber (r .scope); priority = ofZ w16 (r .priority) }
+registrationNumbers r =
+    record { «class_mask» = r .«class_mask»; scope = scopeNumber (r .scope); priority = ofZ w16 (r .priority) }
 
 unfoldable pub maybeOf : MaybeNumbers → OptionalRegistration
 maybeOf n = cond (isOne (n .present)) (registration.Some (registrationOf (n .registration))) registration.None
 
 abbrev pub maybeNumbers : OptionalRegistration → MaybeNumbers
-maybeNumbers registration.None = record { present = 0; registration = record { «class_mask» = 0; scope = 0; priority = 0 } }
+maybeNumbers registration.None =
+    record { present = 0; registration = record { «class_mask» = 0; scope = 0; priority = 0 } }
 maybeNumbers (registration.Some r) = record { present = 1; registration = registrationNumbers r }

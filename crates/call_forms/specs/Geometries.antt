@@ -1,4 +1,5 @@
--- The numbers of points, transforms and geometries, field by field, as a call's form takes them up. A signed number is its two's complement.
+-- The numbers of points, transforms and geometries, field by field, as a call's form takes them up. A signed number is
+-- its two's complement.
 use mir.Syntax.{w32}
 use mir.Val.{ofZ}
 use Rattle.geometry.specs.declared.metrics.ViewMetricsUpdate.{ViewMetricsUpdate}

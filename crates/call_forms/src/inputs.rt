@@ -13,7 +13,8 @@ use calls::arguments::FocusArguments;
 use calls::call::InputCall;
 
 fn focus_form(focus: FocusArguments) -> [u64; 32]
-    ensures { λ r. ⌜ r ≡ pad 32 0 (8 ∷ handleNumbers (focus .view) ++ optionalNumbers (focus .surface) ++ focus .revision ∷ []) ⌝ }
+    ensures { λ r. ⌜ r ≡ pad 32 0
+        (8 ∷ handleNumbers (focus .view) ++ optionalNumbers (focus .surface) ++ focus .revision ∷ []) ⌝ }
 {
     let view = focus.view;
     let surface = focus.surface;

@@ -25,7 +25,8 @@ use calls::call::PanelCall;
 use records::surface::SurfaceDescriptor;
 
 fn metrics_form(given: MetricsArguments) -> [u64; 32]
-    ensures { λ r. ⌜ r ≡ pad 32 0 (3 ∷ handleNumbers (given .view) ++ metricsNumbers (given .update) ++ given .revision ∷ []) ⌝ }
+    ensures { λ r. ⌜ r ≡ pad 32 0
+        (3 ∷ handleNumbers (given .view) ++ metricsNumbers (given .update) ++ given .revision ∷ []) ⌝ }
 {
     let view = given.view;
     let update = given.update;
@@ -93,7 +94,8 @@ fn attach_form(d: SurfaceDescriptor) -> [u64; 32]
 }
 
 fn geometry_form(given: GeometryArguments) -> [u64; 32]
-    ensures { λ r. ⌜ r ≡ pad 32 0 (6 ∷ handleNumbers (given .surface) ++ geometryNumbers (given .geometry) ++ given .revision ∷ []) ⌝ }
+    ensures { λ r. ⌜ r ≡ pad 32 0
+        (6 ∷ handleNumbers (given .surface) ++ geometryNumbers (given .geometry) ++ given .revision ∷ []) ⌝ }
 {
     let surface = given.surface;
     let geometry = given.geometry;
@@ -125,7 +127,8 @@ fn geometry_form(given: GeometryArguments) -> [u64; 32]
 }
 
 fn policy_form(given: PolicyArguments) -> [u64; 32]
-    ensures { λ r. ⌜ r ≡ pad 32 0 (7 ∷ handleNumbers (given .surface) ++ policyNumber (given .input) ∷ given .revision ∷ []) ⌝ }
+    ensures { λ r. ⌜ r ≡ pad 32 0
+        (7 ∷ handleNumbers (given .surface) ++ policyNumber (given .input) ∷ given .revision ∷ []) ⌝ }
 {
     let surface = given.surface;
     let input = given.input;

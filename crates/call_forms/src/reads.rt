@@ -14,7 +14,8 @@ use calls::arguments::InversePointArguments;
 use calls::call::ReadCall;
 
 fn hit_test_form(given: HitTestArguments) -> [u64; 32]
-    ensures { λ r. ⌜ r ≡ pad 32 0 (35 ∷ handleNumbers (given .view) ++ pointNumbers (given .point) ++ given .length ∷ []) ⌝ }
+    ensures { λ r. ⌜ r ≡ pad 32 0
+        (35 ∷ handleNumbers (given .view) ++ pointNumbers (given .point) ++ given .length ∷ []) ⌝ }
 {
     let view = given.view;
     let point = given.point;

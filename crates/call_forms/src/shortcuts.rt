@@ -12,7 +12,8 @@ use calls::arguments::RegistrationArguments;
 use calls::call::ShortcutCall;
 
 fn registration_form(given: RegistrationArguments) -> [u64; 32]
-    ensures { λ r. ⌜ r ≡ pad 32 0 (18 ∷ handleNumbers (given .surface) ++ maybeNumbers (given .registration) ++ given .revision ∷ []) ⌝ }
+    ensures { λ r. ⌜ r ≡ pad 32 0
+        (18 ∷ handleNumbers (given .surface) ++ maybeNumbers (given .registration) ++ given .revision ∷ []) ⌝ }
 {
     let surface = given.surface;
     let optional = given.registration;
@@ -28,7 +29,8 @@ fn registration_form(given: RegistrationArguments) -> [u64; 32]
 }
 
 fn mask_form(given: MaskArguments) -> [u64; 32]
-    ensures { λ r. ⌜ r ≡ pad 32 0 (19 ∷ handleNumbers (given .surface) ++ given .«class_mask» ∷ given .revision ∷ []) ⌝ }
+    ensures { λ r. ⌜ r ≡ pad 32 0
+        (19 ∷ handleNumbers (given .surface) ++ given .«class_mask» ∷ given .revision ∷ []) ⌝ }
 {
     let surface = given.surface;
     let mut words = handle_form(19, surface);

@@ -16,7 +16,9 @@ use Rattle.call_numbers.specs.Words.{handleNumbers, handleAt}
 
 -- shift, control, alt, meta, caps lock, num lock
 abbrev pub modifiersNumbers : InputModifiers → List ℕ
-modifiersNumbers m = oneIf (m .shift) ∷ oneIf (m .control) ∷ oneIf (m .alt) ∷ oneIf (m .meta) ∷ oneIf (m .«caps_lock») ∷ oneIf (m .«num_lock») ∷ []
+modifiersNumbers m =
+    oneIf (m .shift) ∷ oneIf (m .control) ∷ oneIf (m .alt) ∷ oneIf (m .meta) ∷ oneIf (m .«caps_lock»)
+    ∷ oneIf (m .«num_lock») ∷ []
 
 unfoldable pub modifiersAt : List ℕ → InputModifiers
 modifiersAt l = record {
@@ -31,7 +33,8 @@ modifiersAt l = record {
 -- sequence, time, metrics revision, window, view, device, its kind, modifiers
 abbrev pub headerNumbers : PlatformInputHeader → List ℕ
 headerNumbers h =
-    h .sequence ∷ h .«timestamp_micros» ∷ h .«metrics_revision» ∷ h .window .index ∷ h .window .generation ∷ h .view .index ∷ h .view .generation
+    h .sequence ∷ h .«timestamp_micros» ∷ h .«metrics_revision» ∷ h .window .index ∷ h .window .generation
+    ∷ h .view .index ∷ h .view .generation
     ∷ h .device .value ∷ h .device .generation ∷ deviceKindNumber (h .«device_kind») ∷ modifiersNumbers (h .modifiers)
 
 unfoldable pub headerAt : List ℕ → PlatformInputHeader
@@ -53,4 +56,6 @@ routerNumbers ReleaseAll = 25 ∷ []
 
 -- the call of a number; any past the last is read as the last
 unfoldable pub routerAt : List ℕ → RouterCall
-routerAt l = cond (eqb (getD l 0 0) 23) (Route (record { header = headerAt l; payload = payloadAt l })) (cond (eqb (getD l 0 0) 24) (ReleaseSurface (handleAt l 1)) ReleaseAll)
+routerAt l =
+    cond (eqb (getD l 0 0) 23) (Route (record { header = headerAt l; payload = payloadAt l }))
+    (cond (eqb (getD l 0 0) 24) (ReleaseSurface (handleAt l 1)) ReleaseAll)

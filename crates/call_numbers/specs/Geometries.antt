@@ -16,14 +16,25 @@ use Rattle.call_fields.specs.PanelChoices.{visibilityOf, visibilityNumber}
 
 -- flag, x, y, width, height
 abbrev pub rectNumbers : OptionalRect → List ℕ
-rectNumbers o = rectFields o .present ∷ rectFields o .«x_milli» ∷ rectFields o .«y_milli» ∷ rectFields o .«width_milli» ∷ rectFields o .«height_milli» ∷ []
+rectNumbers o =
+    rectFields o .present ∷ rectFields o .«x_milli» ∷ rectFields o .«y_milli» ∷ rectFields o .«width_milli»
+    ∷ rectFields o .«height_milli» ∷ []
 
 abbrev pub rectAt : List ℕ → ℕ → OptionalRect
-rectAt l i = rectOf (record { present = getD l i 0; «x_milli» = getD l (i + 1) 0; «y_milli» = getD l (i + 2) 0; «width_milli» = getD l (i + 3) 0; «height_milli» = getD l (i + 4) 0 })
+rectAt l i =
+    rectOf (record {
+      present = getD l i 0;
+      «x_milli» = getD l (i + 1) 0;
+      «y_milli» = getD l (i + 2) 0;
+      «width_milli» = getD l (i + 3) 0;
+      «height_milli» = getD l (i + 4) 0;
+    })
 
 -- the matrix, row by row, and the translation
 abbrev pub transformNumbers : SurfaceTransform → List ℕ
-transformNumbers t = ofZ w32 (t .«m11_q16») ∷ ofZ w32 (t .«m12_q16») ∷ ofZ w32 (t .«m21_q16») ∷ ofZ w32 (t .«m22_q16») ∷ ofZ w32 (t .«translate_x_milli») ∷ ofZ w32 (t .«translate_y_milli») ∷ []
+transformNumbers t =
+    ofZ w32 (t .«m11_q16») ∷ ofZ w32 (t .«m12_q16») ∷ ofZ w32 (t .«m21_q16») ∷ ofZ w32 (t .«m22_q16»)
+    ∷ ofZ w32 (t .«translate_x_milli») ∷ ofZ w32 (t .«translate_y_milli») ∷ []
 
 unfoldable pub transformAt : List ℕ → ℕ → SurfaceTransform
 transformAt l i = record {
@@ -43,7 +54,9 @@ pointAt l i = record { «x_milli» = signedOf (getD l i 0) .value; «y_milli» =
 
 -- bounds, clip, transform, opacity, hit testing
 abbrev pub geometryNumbers : SurfaceGeometry → List ℕ
-geometryNumbers g = rectNumbers (g .bounds) ++ rectNumbers (g .clip) ++ transformNumbers (g .transform) ++ g .«opacity_q16» ∷ oneIf (g .«hit_test_enabled») ∷ []
+geometryNumbers g =
+    rectNumbers (g .bounds) ++ rectNumbers (g .clip) ++ transformNumbers (g .transform) ++ g .«opacity_q16»
+    ∷ oneIf (g .«hit_test_enabled») ∷ []
 
 unfoldable pub geometryAt : List ℕ → ℕ → SurfaceGeometry
 geometryAt l i = record {
@@ -66,8 +79,10 @@ insetsAt l i = record {
 -- origin, size, framebuffer, scale, insets, visibility
 abbrev pub metricsNumbers : ViewMetricsUpdate → List ℕ
 metricsNumbers u =
-    ofZ w32 (u .«origin_x_milli») ∷ ofZ w32 (u .«origin_y_milli») ∷ u .«width_milli» ∷ u .«height_milli» ∷ u .«framebuffer_width» ∷ u .«framebuffer_height» ∷ u .«scale_q16»
-    ∷ u .«safe_area» .«top_milli» ∷ u .«safe_area» .«right_milli» ∷ u .«safe_area» .«bottom_milli» ∷ u .«safe_area» .«left_milli» ∷ visibilityNumber (u .visibility) ∷ []
+    ofZ w32 (u .«origin_x_milli») ∷ ofZ w32 (u .«origin_y_milli») ∷ u .«width_milli» ∷ u .«height_milli»
+    ∷ u .«framebuffer_width» ∷ u .«framebuffer_height» ∷ u .«scale_q16»
+    ∷ u .«safe_area» .«top_milli» ∷ u .«safe_area» .«right_milli» ∷ u .«safe_area» .«bottom_milli»
+    ∷ u .«safe_area» .«left_milli» ∷ visibilityNumber (u .visibility) ∷ []
 
 unfoldable pub metricsAt : List ℕ → ℕ → ViewMetricsUpdate
 metricsAt l i = record {

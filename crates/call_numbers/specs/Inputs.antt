@@ -1,4 +1,5 @@
--- The calls on focus, captures, compositions and suspends, as numbers 8 to 15 with their fields, and the release of a device's captures, 16.
+-- The calls on focus, captures, compositions and suspends, as numbers 8 to 15 with their fields, and the release of a
+-- device's captures, 16.
 use Prim.Native.Nat.{ℕ}
 use mathlib.Core.Bool.{cond}
 use mathlib.Core.List.{List, [], _∷_, _++_}
@@ -39,7 +40,8 @@ inputNumbers (SuspendViewInput a) = 15 ∷ revisionNumbers a
 -- the call of a number; any past the last is read as the last
 unfoldable pub inputAt : List ℕ → InputCall
 inputAt l =
-    cond (eqb (getD l 0 0) 8) (SetFocus (record { view = handleAt l 1; surface = optionalAt l 3; revision = getD l 6 0 }))
+    cond (eqb (getD l 0 0) 8)
+    (SetFocus (record { view = handleAt l 1; surface = optionalAt l 3; revision = getD l 6 0 }))
     (cond (eqb (getD l 0 0) 9) (CapturePointer (revisionAt l))
     (cond (eqb (getD l 0 0) 10) (CapturePointerFor (namedAt l))
     (cond (eqb (getD l 0 0) 11) (ReleasePointer (revisionAt l))

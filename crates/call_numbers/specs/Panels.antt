@@ -16,7 +16,9 @@ use Rattle.call_numbers.specs.Geometries.{geometryNumbers, geometryAt, m
 
 -- view, kind, z order, policy, whether it accepts text, geometry
 abbrev pub descriptorNumbers : SurfaceDescriptor → List ℕ
-descriptorNumbers d = handleNumbers (d .view) ++ surfaceKindNumber (d .kind) ∷ ofZ w32 (d .«z_order») ∷ policyNumber (d .input) ∷ oneIf (d .«accepts_text») ∷ geometryNumbers (d .geometry)
+descriptorNumbers d =
+    handleNumbers (d .view) ++ surfaceKindNumber (d .kind) ∷ ofZ w32 (d .«z_order») ∷ policyNumber (d .input)
+    ∷ oneIf (d .«accepts_text») ∷ geometryNumbers (d .geometry)
 
 unfoldable pub descriptorAt : List ℕ → SurfaceDescriptor
 descriptorAt l = record {
@@ -35,7 +37,8 @@ panelNumbers (CreateView h) = 2 ∷ handleNumbers h
 panelNumbers (UpdateViewMetrics a) = 3 ∷ handleNumbers (a .view) ++ metricsNumbers (a .update) ++ a .revision ∷ []
 panelNumbers (CloseView h) = 4 ∷ handleNumbers h
 panelNumbers (AttachSurface d) = 5 ∷ descriptorNumbers d
-panelNumbers (UpdateSurfaceGeometry a) = 6 ∷ handleNumbers (a .surface) ++ geometryNumbers (a .geometry) ++ a .revision ∷ []
+panelNumbers (UpdateSurfaceGeometry a) =
+    6 ∷ handleNumbers (a .surface) ++ geometryNumbers (a .geometry) ++ a .revision ∷ []
 panelNumbers (UpdateSurfaceInputPolicy a) = 7 ∷ handleNumbers (a .surface) ++ policyNumber (a .input) ∷ a .revision ∷ []
 
 -- the call of a number; any past the last is read as the last
@@ -44,8 +47,11 @@ panelAt l =
     cond (eqb (getD l 0 0) 0) CreateWindow
     (cond (eqb (getD l 0 0) 1) (CloseWindow (handleAt l 1))
     (cond (eqb (getD l 0 0) 2) (CreateView (handleAt l 1))
-    (cond (eqb (getD l 0 0) 3) (UpdateViewMetrics (record { view = handleAt l 1; update = metricsAt l 3; revision = getD l 15 0 }))
+    (cond (eqb (getD l 0 0) 3)
+    (UpdateViewMetrics (record { view = handleAt l 1; update = metricsAt l 3; revision = getD l 15 0 }))
     (cond (eqb (getD l 0 0) 4) (CloseView (handleAt l 1))
     (cond (eqb (getD l 0 0) 5) (AttachSurface (descriptorAt l))
-    (cond (eqb (getD l 0 0) 6) (UpdateSurfaceGeometry (record { surface = handleAt l 1; geometry = geometryAt l 3; revision = getD l 21 0 }))
-    (UpdateSurfaceInputPolicy (record { surface = handleAt l 1; input = policyOf (getD l 3 0); revision = getD l 4 0 }))))))))
+    (cond (eqb (getD l 0 0) 6)
+    (UpdateSurfaceGeometry (record { surface = handleAt l 1; geometry = geometryAt l 3; revision = getD l 21 0 }))
+    (UpdateSurfaceInputPolicy
+    (record { surface = handleAt l 1; input = policyOf (getD l 3 0); revision = getD l 4 0 }))))))))

@@ -19,13 +19,18 @@ use Rattle.call_fields.specs.Narrow.{within, isOne, oneIf, signedOf, shortOf}
 
 unfoldable pub payloadNumbers : PlatformInputPayload → List ℕ
 payloadNumbers (Pointer p) =
-    0 ∷ p .contact ∷ pointerPhaseNumber (p .phase) ∷ ofZ w32 (p .«x_milli») ∷ ofZ w32 (p .«y_milli») ∷ ofZ w32 (p .«delta_x_milli») ∷ ofZ w32 (p .«delta_y_milli»)
-    ∷ p .«pressure_q15» ∷ ofZ w16 (p .«tilt_x_degrees») ∷ ofZ w16 (p .«tilt_y_degrees») ∷ p .buttons ∷ buttonNumbers (p .«changed_button») .present ∷ buttonNumbers (p .«changed_button») .button ∷ []
-payloadNumbers (Wheel p) = 1 ∷ p .contact ∷ ofZ w32 (p .«x_milli») ∷ ofZ w32 (p .«y_milli») ∷ ofZ w32 (p .«delta_x_milli») ∷ ofZ w32 (p .«delta_y_milli») ∷ wheelUnitNumber (p .unit) ∷ []
+    0 ∷ p .contact ∷ pointerPhaseNumber (p .phase) ∷ ofZ w32 (p .«x_milli») ∷ ofZ w32 (p .«y_milli»)
+    ∷ ofZ w32 (p .«delta_x_milli») ∷ ofZ w32 (p .«delta_y_milli»)
+    ∷ p .«pressure_q15» ∷ ofZ w16 (p .«tilt_x_degrees») ∷ ofZ w16 (p .«tilt_y_degrees») ∷ p .buttons
+    ∷ buttonNumbers (p .«changed_button») .present ∷ buttonNumbers (p .«changed_button») .button ∷ []
+payloadNumbers (Wheel p) =
+    1 ∷ p .contact ∷ ofZ w32 (p .«x_milli») ∷ ofZ w32 (p .«y_milli») ∷ ofZ w32 (p .«delta_x_milli»)
+    ∷ ofZ w32 (p .«delta_y_milli») ∷ wheelUnitNumber (p .unit) ∷ []
 payloadNumbers (Key p) = 2 ∷ keyPhaseNumber (p .phase) ∷ p .«physical_key» ∷ oneIf (p .repeat) ∷ []
 payloadNumbers (Shortcut p) = 3 ∷ p .«class_mask» ∷ oneIf (p .system) ∷ []
 payloadNumbers (Text p) = 4 ∷ p .length ∷ []
-payloadNumbers (Composition p) = 5 ∷ compositionPhaseNumber (p .phase) ∷ p .length ∷ p .«selection_start» ∷ p .«selection_end» ∷ []
+payloadNumbers (Composition p) =
+    5 ∷ compositionPhaseNumber (p .phase) ∷ p .length ∷ p .«selection_start» ∷ p .«selection_end» ∷ []
 payloadNumbers (GamepadSnapshot p) = 6 ∷ oneIf (p .connected) ∷ mappingNumber (p .mapping) ∷ []
 payloadNumbers (FocusChanged f) = 7 ∷ oneIf f ∷ []
 payloadNumbers (VisibilityChanged f) = 8 ∷ oneIf f ∷ []
@@ -57,7 +62,12 @@ wheelAt l = record {
 }
 
 unfoldable pub keyAt : List ℕ → KeyInput
-keyAt l = record { phase = keyPhaseOf (getD l 18 0); «physical_key» = within 4294967296 (getD l 19 0); repeat = isOne (getD l 20 0) }
+keyAt l =
+    record {
+      phase = keyPhaseOf (getD l 18 0);
+      «physical_key» = within 4294967296 (getD l 19 0);
+      repeat = isOne (getD l 20 0);
+    }
 
 unfoldable pub compositionAt : List ℕ → CompositionInput
 compositionAt l = record {

@@ -34,5 +34,6 @@ readAt l =
     (cond (eqb (getD l 0 0) 32) Traces
     (cond (eqb (getD l 0 0) 33) Counts
     (cond (eqb (getD l 0 0) 34) ActiveBindingCount
-    (cond (eqb (getD l 0 0) 35) (HitTestStack (record { view = handleAt l 1; point = pointAt l 3; length = getD l 5 0 }))
+    (cond (eqb (getD l 0 0) 35)
+    (HitTestStack (record { view = handleAt l 1; point = pointAt l 3; length = getD l 5 0 }))
     (InversePoint (record { transform = transformAt l 1; point = pointAt l 7 })))))))))))

@@ -12,10 +12,16 @@ use Rattle.call_numbers.specs.Words.{handleNumbers, handleAt}
 
 -- flag, class mask, scope, priority
 abbrev pub maybeNumbers : OptionalRegistration → List ℕ
-maybeNumbers o = maybeFields o .present ∷ maybeFields o .registration .«class_mask» ∷ maybeFields o .registration .scope ∷ maybeFields o .registration .priority ∷ []
+maybeNumbers o =
+    maybeFields o .present ∷ maybeFields o .registration .«class_mask» ∷ maybeFields o .registration .scope
+    ∷ maybeFields o .registration .priority ∷ []
 
 abbrev pub maybeAt : List ℕ → OptionalRegistration
-maybeAt l = maybeOf (record { present = getD l 3 0; registration = record { «class_mask» = getD l 4 0; scope = getD l 5 0; priority = getD l 6 0 } })
+maybeAt l =
+    maybeOf (record {
+      present = getD l 3 0;
+      registration = record { «class_mask» = getD l 4 0; scope = getD l 5 0; priority = getD l 6 0 };
+    })
 
 unfoldable pub shortcutNumbers : ShortcutCall → List ℕ
 shortcutNumbers (RegisterSet a) = 17 ∷ handleNumbers (a .handle) ++ a .revision ∷ []
@@ -26,5 +32,6 @@ shortcutNumbers (SetMask a) = 19 ∷ handleNumbers (a .surface) ++ a .«class_ma
 unfoldable pub shortcutAt : List ℕ → ShortcutCall
 shortcutAt l =
     cond (eqb (getD l 0 0) 17) (RegisterSet (record { handle = handleAt l 1; revision = getD l 3 0 }))
-    (cond (eqb (getD l 0 0) 18) (RegisterOne (record { surface = handleAt l 1; registration = maybeAt l; revision = getD l 7 0 }))
+    (cond (eqb (getD l 0 0) 18)
+    (RegisterOne (record { surface = handleAt l 1; registration = maybeAt l; revision = getD l 7 0 }))
     (SetMask (record { surface = handleAt l 1; «class_mask» = getD l 3 0; revision = getD l 4 0 })))

@@ -85,7 +85,8 @@ pub enum Call {
     Read(ReadCall),
 }
 
-// What is handed in beside a call, as an enum holds no array: the hits of an arbitration and the registrations of a set.
+// What is handed in beside a call, as an enum holds no array: the hits of an arbitration and the registrations of a
+// set.
 pub struct Lists {
     pub hits: Hits,
     pub registrations: Registrations,

@@ -1,4 +1,5 @@
--- Document 01, Arbitrate: 8/9, 41 (over 16 hits handed in), 8/9 (for a system shortcut), 21, each after 42 and before any change.
+-- RULES.md, Arbitrate: 8/9, 41 (over 16 hits handed in), 8/9 (for a system shortcut), 21, each after 42 and before any
+-- change.
 use Prim.Native.Nat.{ℕ, _+_}
 use mathlib.Core.Bool.{Bool, true, false, cond}
 use mathlib.Core.List.{List, [], _∷_}
@@ -72,7 +73,8 @@ resolution r view Shortcut = unresolved
 
 -- System shortcut: "It alone gets the event and consumes it."
 unfoldable pub alone : GenerationalHandle → Walked
-alone h = record { deliveries = packed deliveries (record { surface = h; observed = false } ∷ []); «consumed_by» = Some h }
+alone h =
+    record { deliveries = packed deliveries (record { surface = h; observed = false } ∷ []); «consumed_by» = Some h }
 
 abbrev pub orAlone : OptionalHandle → Walked → Walked
 orAlone (Some h) walk = alone h
@@ -92,7 +94,7 @@ arbitration r view event h = orAlone (resolution r view event .surface) (walkIn 
 abbrev pub nextRevision : ℕ → ℕ
 nextRevision n = cond (eqb n maxU64) n (n + 1)
 
--- document 01, Arbitrate: 8/9, 41, 8/9, 21, after what the damage test says
+-- RULES.md, Arbitrate: 8/9, 41, 8/9, 21, after what the damage test says
 abbrev pub refusalAfter : Outcome → CompositionRegistry → GenerationalHandle → Hits → Outcome → Outcome
 refusalAfter damage r view own shortcut =
     thenRefusal damage
@@ -108,7 +110,14 @@ arbitrateRefusal r view own shortcut = refusalAfter (damageRefusal r) r view own
 -- the trace keeps the event with its hits, the deliveries and the consumer
 abbrev pub traceOf : ℕ → GenerationalHandle → ArbitrationEvent → Hits → Walked → CompositionTrace
 traceOf n view event own w =
-    record { revision = n; view = view; event = event; hits = own; deliveries = w .deliveries; «consumed_by» = w .«consumed_by» }
+    record {
+      revision = n;
+      view = view;
+      event = event;
+      hits = own;
+      deliveries = w .deliveries;
+      «consumed_by» = w .«consumed_by»;
+    }
 
 abbrev pub withTrace : CompositionTrace → CompositionRegistry → CompositionRegistry
 withTrace e r = withTraces (traced (r .limits .«max_trace_entries») (r .traces) e) r
@@ -120,10 +129,15 @@ resultIf false n w = record { revision = 0; deliveries = packed deliveries []; �
 
 abbrev pub answeredWith : Walked → Changed → Arbitrated
 answeredWith w c =
-    record { outcome = c .outcome; result = resultIf (isAccepted (c .outcome)) (c .registry .revision) w; registry = c .registry }
+    record {
+      outcome = c .outcome;
+      result = resultIf (isAccepted (c .outcome)) (c .registry .revision) w;
+      registry = c .registry;
+    }
 
 -- the answer, once it is known who gets the event
-unfoldable pub concluded : CompositionRegistry → GenerationalHandle → ArbitrationEvent → Hits → Outcome → Walked → Arbitrated
+unfoldable pub concluded : CompositionRegistry → GenerationalHandle → ArbitrationEvent → Hits → Outcome → Walked
+    → Arbitrated
 concluded r view event own shortcut w =
     answeredWith w
     (settled (arbitrateRefusal r view own shortcut) r

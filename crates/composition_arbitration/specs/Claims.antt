@@ -1,4 +1,4 @@
--- What document 01's rules say of every arbitration, beyond the definitions.
+-- What the rules (RULES.md, Layers, Targets) say of every arbitration, beyond the definitions.
 use Prim.Native.Nat.{ℕ, _+_}
 use mathlib.Core.Path.{_≡_}
 use mathlib.Core.Bool.{Bool, true, false}
@@ -41,7 +41,8 @@ pub record EndsWith (d : InputDelivery) (l : List InputDelivery) : Type 0 where
 abbrev pub surfacesOf : List InputDelivery → List GenerationalHandle
 surfacesOf l = map (λ (d : InputDelivery). d .surface) l
 
--- the layers walked are those from some layer up to the top, and the deliveries are those of them that deliver, topmost first
+-- the layers walked are those from some layer up to the top, and the deliveries are those of them that deliver, topmost
+-- first
 pub record FromTheTop (at : GenerationalHandle → Verdict) (l : List GenerationalHandle) : Type 0 where
   pub below : List GenerationalHandle
   pub above : List GenerationalHandle
@@ -52,33 +53,45 @@ pub record FromTheTop (at : GenerationalHandle → Verdict) (l : List Generation
 pub record WalkClaims : Type 0 where
   -- the consumer, if any, is the last delivery, and not observed
   pub consumer-last : (at : GenerationalHandle → Verdict) (l : List GenerationalHandle) (h : GenerationalHandle)
-      → consumerOf at (walked at l) ≡ Some h → EndsWith (record { surface = h; observed = false }) (deliveriesOf at (walked at l))
+      → consumerOf at (walked at l) ≡ Some h
+      → EndsWith (record { surface = h; observed = false }) (deliveriesOf at (walked at l))
   -- every delivery is a layer of the view, topmost first
   pub topmost-first : (at : GenerationalHandle → Verdict) (l : List GenerationalHandle) → FromTheTop at l
   -- each at most once: read from the last on, the deliveries rise in layer order, if the layers do
   pub each-once : (at : GenerationalHandle → Verdict) (records : List SurfaceRecord) (l : List GenerationalHandle)
-      → rising itself (layerLt records) l ≡ true → rising itself (layerLt records) (reverse (surfacesOf (deliveriesOf at (walked at l)))) ≡ true
+      → rising itself (layerLt records) l ≡ true
+      → rising itself (layerLt records) (reverse (surfacesOf (deliveriesOf at (walked at l)))) ≡ true
   -- the layers above the first that consumes are all walked, with it
   pub all-above : (at : GenerationalHandle → Verdict) (below above : List GenerationalHandle) (c : GenerationalHandle)
-      → consumes (at c) ≡ true → keep (λ h. consumes (at h)) above ≡ [] → walked at (below ++ (c ∷ above)) ≡ reverse (c ∷ above)
+      → consumes (at c) ≡ true → keep (λ h. consumes (at h)) above ≡ [] → walked at (below ++ (c ∷ above))
+      ≡ reverse (c ∷ above)
   -- an Observe layer that is walked is delivered to, observed
   pub observers-hear : (s : SurfaceTable) (c : Choice) (hits l : List GenerationalHandle) (h : GenerationalHandle)
       → List·Memᴰ h (walked (verdictAt s c hits) l) → descriptorOf s h .input ≡ Observe
-      → List·Memᴰ (record { surface = h; observed = true }) (deliveriesOf (verdictAt s c hits) (walked (verdictAt s c hits) l))
+      → List·Memᴰ (record { surface = h; observed = true })
+      (deliveriesOf (verdictAt s c hits) (walked (verdictAt s c hits) l))
   -- an Exclusive layer is never passed: what lies below it changes nothing
-  pub exclusive-ends : (s : SurfaceTable) (c : Choice) (hits below above : List GenerationalHandle) (h : GenerationalHandle)
-      → descriptorOf s h .input ≡ Exclusive → walked (verdictAt s c hits) (below ++ (h ∷ above)) ≡ walked (verdictAt s c hits) (h ∷ above)
-  -- with a capture, hits do not matter: by the view's single field, and by the map entry of the pointer that the event names
-  pub capture-decides : (s : SurfaceTable) (v : ViewRecord) (owner : GenerationalHandle) (m n : OptionalHandle) (hits more l : List GenerationalHandle)
+  pub exclusive-ends : (s : SurfaceTable) (c : Choice) (hits below above : List GenerationalHandle)
+      (h : GenerationalHandle)
+      → descriptorOf s h .input ≡ Exclusive → walked (verdictAt s c hits) (below ++ (h ∷ above))
+      ≡ walked (verdictAt s c hits) (h ∷ above)
+  -- with a capture, hits do not matter: by the view's single field, and by the map entry of the pointer that the event
+  -- names
+  pub capture-decides : (s : SurfaceTable) (v : ViewRecord) (owner : GenerationalHandle) (m n : OptionalHandle)
+      (hits more l : List GenerationalHandle)
       → v .«pointer_capture» ≡ Some owner
       → (walkOf (verdictAt s (chosen (Pointer m) v) hits) l ≡ walkOf (verdictAt s (chosen (Pointer n) v) more) l)
       × (walkOf (verdictAt s (chosen PointerStack v) hits) l ≡ walkOf (verdictAt s (chosen PointerStack v) more) l)
-  pub named-capture-decides : (s : SurfaceTable) (v : ViewRecord) (p : CompositionPointerId) (owner : GenerationalHandle) (m n : OptionalHandle)
+  pub named-capture-decides : (s : SurfaceTable) (v : ViewRecord) (p : CompositionPointerId)
+      (owner : GenerationalHandle) (m n : OptionalHandle)
       (hits more l : List GenerationalHandle) → captureFor p v ≡ Some owner
-      → (walkOf (verdictAt s (chosen (PointerFor p m) v) hits) l ≡ walkOf (verdictAt s (chosen (PointerFor p n) v) more) l)
-      × (walkOf (verdictAt s (chosen (PointerStackFor p) v) hits) l ≡ walkOf (verdictAt s (chosen (PointerStackFor p) v) more) l)
+      → (walkOf (verdictAt s (chosen (PointerFor p m) v) hits) l
+      ≡ walkOf (verdictAt s (chosen (PointerFor p n) v) more) l)
+      × (walkOf (verdictAt s (chosen (PointerStackFor p) v) hits) l
+      ≡ walkOf (verdictAt s (chosen (PointerStackFor p) v) more) l)
   -- the order of the hits decides nothing: lists with the same panels give the same answer
-  pub hit-order : (s : SurfaceTable) (c : Choice) (hits more l : List GenerationalHandle) → ((h : GenerationalHandle) → isAmong h hits ≡ isAmong h more)
+  pub hit-order : (s : SurfaceTable) (c : Choice) (hits more l : List GenerationalHandle)
+      → ((h : GenerationalHandle) → isAmong h hits ≡ isAmong h more)
       → walkOf (verdictAt s c hits) l ≡ walkOf (verdictAt s c more) l
 
 -- the trace that an accepted call stores
@@ -87,18 +100,22 @@ newTrace r view event h = traceOf (r .revision + 1) view event (ownHits event h)
 
 pub record ArbitrationClaims : Type 0 where
   -- every refusal, 21 too, leaves the registry as it came
-  pub refused : (r : CompositionRegistry) (view : GenerationalHandle) (event : ArbitrationEvent) (h : Hits) (e : CompositionError)
+  pub refused : (r : CompositionRegistry) (view : GenerationalHandle) (event : ArbitrationEvent) (h : Hits)
+      (e : CompositionError)
       → arbitrated r view event h .outcome ≡ Refused e → arbitrated r view event h .registry ≡ r
   -- an accepted call changes the traces and the revision, which rises by exactly 1, and nothing else
   pub accepted : (r : CompositionRegistry) (view : GenerationalHandle) (event : ArbitrationEvent) (h : Hits)
       → arbitrated r view event h .outcome ≡ Accepted
       → arbitrated r view event h .registry ≡ withRevision (r .revision + 1) (withTrace (newTrace r view event h) r)
   -- the consumer, if any, is the last delivery, and not observed
-  pub consumer-last : (r : CompositionRegistry) (view : GenerationalHandle) (event : ArbitrationEvent) (h : Hits) (s : GenerationalHandle)
+  pub consumer-last : (r : CompositionRegistry) (view : GenerationalHandle) (event : ArbitrationEvent) (h : Hits)
+      (s : GenerationalHandle)
       → arbitration r view event h .«consumed_by» ≡ Some s
-      → EndsWith (record { surface = s; observed = false }) (entriesOf deliveries (arbitration r view event h .deliveries))
+      → EndsWith (record { surface = s; observed = false })
+      (entriesOf deliveries (arbitration r view event h .deliveries))
   -- a system shortcut's winner alone gets the event and consumes it
   pub winner-alone : (r : CompositionRegistry) (view s : GenerationalHandle) (mask : ℕ) (h : Hits)
       → resolveSystemShortcut r view mask .surface ≡ Some s
-      → (entriesOf deliveries (arbitration r view (SystemShortcut mask) h .deliveries) ≡ record { surface = s; observed = false } ∷ [])
+      → (entriesOf deliveries (arbitration r view (SystemShortcut mask) h .deliveries)
+      ≡ record { surface = s; observed = false } ∷ [])
       × (arbitration r view (SystemShortcut mask) h .«consumed_by» ≡ Some s)

@@ -1,4 +1,5 @@
--- What is decided of an event before anything is written, so that a caller who has tested the registry for damage need not have it tested again.
+-- What is decided of an event before anything is written, so that a caller who has tested the registry for damage need
+-- not have it tested again.
 use Rattle.handles.specs.declared.GenerationalHandle.{GenerationalHandle}
 use Rattle.records.specs.declared.error.Outcome.{Outcome}
 use Rattle.composition_state.specs.declared.registry.CompositionRegistry.{CompositionRegistry}

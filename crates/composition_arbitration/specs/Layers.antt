@@ -1,4 +1,4 @@
--- Document 01, Layers: a view's layers, from lowest to highest, are walked from the top, and a consumer ends the walk.
+-- RULES.md, Layers: a view's layers, from lowest to highest, are walked from the top, and a consumer ends the walk.
 use mathlib.Core.Bool.{Bool, true, false, cond}
 use mathlib.Core.List.{List, [], _∷_, map, reverse}
 use Rattle.lists.specs.Lists.{keep}
@@ -18,7 +18,8 @@ use Rattle.composition_arbitration.specs.declared.walk.Verdict.the-varia
 use Rattle.composition_arbitration.specs.declared.walk.Walked.{Walked}
 use Rattle.composition_arbitration.specs.Targets.{isTargeted}
 
--- "Observe: always delivered, observed. Passthrough: delivered if targeted. Interactive: if targeted, delivered and consumes. Exclusive: always
+-- "Observe: always delivered, observed. Passthrough: delivered if targeted. Interactive: if targeted, delivered and
+-- consumes. Exclusive: always
 -- delivered and consumes."
 abbrev pub verdict : SurfaceInputPolicy → Bool → Verdict
 verdict Observe t = Observing

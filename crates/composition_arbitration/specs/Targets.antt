@@ -1,4 +1,4 @@
--- Document 01, Targets.
+-- RULES.md, Targets.
 use mathlib.Core.Bool.{Bool, false, _&&_, _||_}
 use mathlib.Core.List.{List, [], _∷_}
 use Rattle.handles.specs.Handles.{sameHandle, holdsHandle}
@@ -28,7 +28,8 @@ captureOr None otherwise = otherwise
 abbrev pub captureFor : CompositionPointerId → ViewRecord → OptionalHandle
 captureFor p v = surfaceOf (found captures captureKey (pointerKey p) (v .«pointer_captures»))
 
--- "An event that names its pointer uses that pointer's map entry, others the view's single capture field. KeyboardFor and GamepadFor: the target
+-- "An event that names its pointer uses that pointer's map entry, others the view's single capture field. KeyboardFor
+-- and GamepadFor: the target
 -- given. Keyboard, Gamepad, Shortcut and an unresolved SystemShortcut: the focus. Text: the focus, if it accepts text."
 unfoldable pub chosen : ArbitrationEvent → ViewRecord → Choice
 chosen (Pointer hit) v = captureOr (v .«pointer_capture») (Hit hit)

@@ -1,4 +1,4 @@
--- Document 01, Port limits: 32 traces (the oldest drops out).
+-- RULES.md, Port limits: 32 traces (the oldest drops out).
 use Prim.Native.Nat.{ℕ, _-_}
 use mathlib.Core.Bool.{cond}
 use mathlib.Core.List.{List, [], _∷_, _++_}

@@ -41,7 +41,8 @@ fn first_kept(n: usize, kept: usize) -> usize
     n - kept
 }
 
-// The traces with a new one at the end; the oldest drop out where the limit is passed. Each is stored in its place, since a
+// The traces with a new one at the end; the oldest drop out where the limit is passed. Each is stored in its place,
+// since a
 // table by value would be copied once for each entry.
 pub fn push_trace(traces: Traces, limit: u64, trace: CompositionTrace) -> Traces
     ensures { λ r. ⌜ r ≡ traced limit traces trace ⌝ }

@@ -129,7 +129,8 @@ fn verdict_of(
     hits: Hits,
     surface: GenerationalHandle,
 ) -> Verdict
-    ensures { λ r. ⌜ r ≡ verdict («record» .descriptor .input) (isTargeted choice (entriesOf stateHits hits) surface («record» .descriptor .«accepts_text»)) ⌝ }
+    ensures { λ r. ⌜ r ≡ verdict («record» .descriptor .input)
+        (isTargeted choice (entriesOf stateHits hits) surface («record» .descriptor .«accepts_text»)) ⌝ }
 {
     let descriptor = record.descriptor;
     let input = descriptor.input;
@@ -139,7 +140,8 @@ fn verdict_of(
 
 // The deliveries and the consumer, with the layers walked from the top.
 pub fn walk_layers(surfaces: SurfaceTable, choice: Choice, hits: Hits, layers: Layers) -> Walked
-    ensures { λ r. ⌜ r ≡ walkOf (verdictAt surfaces choice (entriesOf stateHits hits)) (entriesOf stateLayers layers) ⌝ }
+    ensures { λ r. ⌜ r ≡ walkOf (verdictAt surfaces choice (entriesOf stateHits hits))
+        (entriesOf stateLayers layers) ⌝ }
 {
     let records = surfaces.records;
     let found = layers.records_of(records);

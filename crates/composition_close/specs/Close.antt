@@ -1,4 +1,5 @@
--- Document 01, Panels: close 11/12, 8/9, 22, 21, after 42. What a refusal has written: 21 comes after the change; 22 leaves the panel out of its view, with focus, captures and IME already moved.
+-- RULES.md, Panel close: 11/12, 8/9, 22, 21, after 42. What a refusal has written: 21 comes after the change; 22 leaves
+-- the panel out of its view, with focus, captures and IME already moved.
 use mathlib.Core.Bool.{cond}
 use Rattle.handles.specs.Slots.{released}
 use Rattle.handles.specs.declared.GenerationalHandle.{GenerationalHandle}
@@ -21,7 +22,8 @@ use Rattle.composition_close.specs.Detach.{ownView, detachedView, closeR
 -- 42, 11/12, 8/9: these leave the registry as it came
 abbrev pub closeRefusal : CompositionRegistry → GenerationalHandle → Outcome
 closeRefusal r h =
-    thenRefusal (damageRefusal r) (thenRefusal (surfaceRefusal (r .surfaces) h) (viewRefusal (r .views) (ownView (r .surfaces) h)))
+    thenRefusal (damageRefusal r)
+    (thenRefusal (surfaceRefusal (r .surfaces) h) (viewRefusal (r .views) (ownView (r .surfaces) h)))
 
 -- the panel is out of its view, with focus, captures and IME moved; all else stays, its slot and its registrations too
 unfoldable pub detached : GenerationalHandle → CompositionRegistry → CompositionRegistry
@@ -49,10 +51,12 @@ closeSettled r h = settled (slotRefusal r h) (detached h r) (closedPanel h r)
 
 -- the report stands if the close is accepted
 abbrev pub closedWith : SurfaceCloseReport → Changed → SurfaceClosed
-closedWith report c = record { outcome = c .outcome; report = cond (isAccepted (c .outcome)) report noReport; registry = c .registry }
+closedWith report c =
+    record { outcome = c .outcome; report = cond (isAccepted (c .outcome)) report noReport; registry = c .registry }
 
 abbrev pub closeAfter : Outcome → CompositionRegistry → GenerationalHandle → SurfaceClosed
-closeAfter Accepted r h = closedWith (closeReport (r .surfaces) (r .views) h (closeSettled r h .registry .revision)) (closeSettled r h)
+closeAfter Accepted r h =
+    closedWith (closeReport (r .surfaces) (r .views) h (closeSettled r h .registry .revision)) (closeSettled r h)
 closeAfter (Refused e) r h = record { outcome = Refused e; report = noReport; registry = r }
 
 unfoldable pub closeSurface : CompositionRegistry → GenerationalHandle → SurfaceClosed

@@ -1,4 +1,4 @@
--- A panel leaves its view: document 01, Panels, close; Layers; and the counter table's last row.
+-- A panel leaves its view: RULES.md, Panel close; Layers; and Counter table, its last row.
 use Prim.Native.Nat.{ℕ}
 use mathlib.Core.Bool.{Bool, false, cond, not, _||_}
 use mathlib.Core.List.{reverse}
@@ -37,18 +37,20 @@ isOnSurface h e = sameHandle h (e .surface)
 -- the view's single field, or a pointer of its map
 unfoldable pub hadCapture : ViewRecord → GenerationalHandle → Bool
 hadCapture v h =
-    holdsHandle (v .«pointer_capture») h || not (eqb (length (keep (isOnSurface h) (entriesOf captures (v .«pointer_captures»)))) 0)
+    holdsHandle (v .«pointer_capture») h
+    || not (eqb (length (keep (isOnSurface h) (entriesOf captures (v .«pointer_captures»)))) 0)
 
 -- ---- where the focus goes
 -- a live panel whose policy is Interactive or Exclusive
 abbrev pub takesFocus : SurfaceTable → GenerationalHandle → Bool
-takesFocus surfaces at = cond (isLive (surfaceStatus surfaces at)) (isInteractive (descriptorOf surfaces at .input)) false
+takesFocus surfaces at =
+    cond (isLive (surfaceStatus surfaces at)) (isInteractive (descriptorOf surfaces at .input)) false
 
 abbrev pub optional : Option GenerationalHandle → OptionalHandle
 optional none = O.None
 optional (some h) = O.Some h
 
--- document 01, Layers: they go from lowest to highest, so the search is through the list turned round
+-- RULES.md, Layers: they go from lowest to highest, so the search is through the list turned round
 unfoldable pub topmost : SurfaceTable → Layers → OptionalHandle
 topmost surfaces t = optional (first (takesFocus surfaces) (reverse (entriesOf layers t)))
 
@@ -57,7 +59,8 @@ abbrev pub restoredFocus : SurfaceTable → ViewRecord → GenerationalHandle �
 restoredFocus surfaces v h = cond (hadFocus v h) (topmost surfaces (layersWithout h (v .surfaces))) O.None
 
 -- ---- the view without the panel
--- the single field empties if the panel had any capture, also where another panel has that field; of the map only the panel's own entries go
+-- the single field empties if the panel had any capture, also where another panel has that field; of the map only the
+-- panel's own entries go
 unfoldable pub detachedView : SurfaceTable → ViewRecord → GenerationalHandle → ViewRecord
 detachedView surfaces v h = record {
   window = v .window;

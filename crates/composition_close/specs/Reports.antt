@@ -39,7 +39,7 @@ releaseList ime capture focus = listedIf ime ImeComposition ++ (listedIf capture
 abbrev pub noReport : SurfaceCloseReport
 noReport = record { surface = handleOf 0 0; releases = packed releases []; «restored_focus» = None; revision = 0 }
 
--- document 01, Port limits: 16 panels a view, 16 views
+-- RULES.md, Port limits: 16 panels a view, 16 views
 abbrev pub closeReports : Shape SurfaceCloseReport CloseReports
 closeReports = record {
   size = 256;

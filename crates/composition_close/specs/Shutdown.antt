@@ -1,5 +1,6 @@
--- Document 01, Shutdown: 21, 22 (a filled slot of generation 4,294,967,295), both before any change, after 42.
--- After them no close inside is refused (proved in `shutdown_steps`, where it is the Rust's fold of closes): each layer is
+-- RULES.md, Shutdown: 21, 22 (a filled slot of generation 4,294,967,295), both before any change, after 42.
+-- After them no close inside is refused (proved in `shutdown_steps`, where it is the Rust's fold of closes): each layer
+-- is
 -- a live panel of its view (42), no live slot is at its last generation (22), and the revision has room for every step
 -- (21); a view has no layer left and a window no view when its turn comes. So the work is the closing steps alone, each
 -- what the accepted call does.
@@ -35,12 +36,14 @@ isOver revision surfaces views windows = ltb maxU64 (revision + surfaces + views
 
 -- 22: a filled slot is at the last generation
 abbrev pub isAnyExhausted : CompositionRegistry → Bool
-isAnyExhausted r = not (noneExhausted (r .windows) && (noneExhausted (r .views .arena) && noneExhausted (r .surfaces .arena)))
+isAnyExhausted r =
+    not (noneExhausted (r .windows) && (noneExhausted (r .views .arena) && noneExhausted (r .surfaces .arena)))
 
 abbrev pub shutdownRefusal : CompositionRegistry → Outcome
 shutdownRefusal r =
     thenRefusal (damageRefusal r)
-    (thenRefusal (refusalIf (isOver (r .revision) (r .surfaces .arena .live) (r .views .arena .live) (r .windows .live)) RevisionExhausted)
+    (thenRefusal (refusalIf (isOver (r .revision) (r .surfaces .arena .live) (r .views .arena .live) (r .windows .live))
+    RevisionExhausted)
     (refusalIf (isAnyExhausted r) GenerationExhausted))
 
 -- a changed registry, its revision raised
@@ -53,7 +56,9 @@ layerClosed h w =
     let after = raised (closedPanel h (w .registry)) in
     record {
       registry = after;
-      reports = pushed closeReports (w .reports) (closeReport (w .registry .surfaces) (w .registry .views) h (after .revision));
+      reports =
+          pushed closeReports (w .reports)
+          (closeReport (w .registry .surfaces) (w .registry .views) h (after .revision));
     }
 
 -- panels, one after the other
@@ -72,11 +77,13 @@ wholeViewClosed view w =
     record { registry = viewClosed view (done .registry); reports = done .reports }
 
 abbrev pub viewClosedAt : ℕ → Closing → Closing
-viewClosedAt i w = cond (slotAt (w .registry .views .arena) i .filled) (wholeViewClosed (viewHandle (w .registry .views) i) w) w
+viewClosedAt i w =
+    cond (slotAt (w .registry .views .arena) i .filled) (wholeViewClosed (viewHandle (w .registry .views) i) w) w
 
 -- every live view in slot order
 unfoldable pub viewsClosed : CompositionRegistry → Closing
-viewsClosed r = iterBelow viewClosedAt (viewSlots (r .views)) (record { registry = r; reports = packed closeReports [] })
+viewsClosed r =
+    iterBelow viewClosedAt (viewSlots (r .views)) (record { registry = r; reports = packed closeReports [] })
 
 -- a window, and every live window in slot order
 unfoldable pub windowClosed : GenerationalHandle → CompositionRegistry → CompositionRegistry

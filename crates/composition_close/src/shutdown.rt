@@ -102,7 +102,8 @@ fn close_layer(work: Closing, surface: GenerationalHandle) -> Closing
 // The layers of a view, from the top.
 fn close_layers(work: Closing, panels: Layers) -> Closing
     requires { ⌜ work .reports .len + 16 ≤ 256 ⌝ }
-    ensures { λ r. ⌜ (r ≡ layersClosed (reverse (entriesOf layers panels)) work) × (r .reports .len ≤ work .reports .len + 16) ⌝ }
+    ensures { λ r. ⌜ (r ≡ layersClosed (reverse (entriesOf layers panels)) work)
+        × (r .reports .len ≤ work .reports .len + 16) ⌝ }
 {
     let n = panels.count();
     let mut done = work;

@@ -1,4 +1,4 @@
--- Document 01, Hit test: a lent buffer of 64-bit numbers, index then generation; the rest is untouched.
+-- RULES.md, Hit test: a lent buffer of 64-bit numbers, index then generation; the rest is untouched.
 use Prim.Native.Nat.{ℕ, _+_}
 use mathlib.Core.Bool.{Bool, true, false}
 use mathlib.Core.List.{List, [], _∷_, _++_}

@@ -1,4 +1,4 @@
--- Document 01, Hit test: the layers from the top that pass the panel test. Refused 42, 8/9, 41.
+-- RULES.md, Hit test: the layers from the top that pass the panel test. Refused 42, 8/9, 41.
 use Prim.Native.Nat.{ℕ}
 use mathlib.Core.Bool.{Bool, true, false}
 use mathlib.Core.List.{List, [], _∷_, reverse}

@@ -40,7 +40,8 @@ pub fn is_record_hit(record: SurfaceRecord, point: Point) -> bool
 fn fill(surfaces: SurfaceTable, layers: Layers, point: Point, buffer: &mut [u64]) -> usize
     requires { ⌜ 32 ≤ length (now buffer) ⌝ }
     ensures place { λ r. ⌜ r ≡ length (numbersOf (hitsAmong surfaces point (entriesOf stateLayers layers))) ⌝ }
-    ensures filled { λ r. ⌜ now (buffer .exit) ≡ written (now (buffer .entry)) (numbersOf (hitsAmong surfaces point (entriesOf stateLayers layers))) ⌝ }
+    ensures filled { λ r. ⌜ now (buffer .exit)
+        ≡ written (now (buffer .entry)) (numbersOf (hitsAmong surfaces point (entriesOf stateLayers layers))) ⌝ }
 {
     let records = surfaces.records;
     let found = layers.records_of(records);
@@ -62,7 +63,7 @@ pub fn layers_of(views: ViewTable, view: GenerationalHandle) -> Layers
     record.surfaces
 }
 
-// Document 01: 42, 8/9, 41.
+// RULES.md, Hit test: 42, 8/9, 41.
 pub fn hit_test_refusal(
     registry: CompositionRegistry,
     view: GenerationalHandle,
@@ -111,7 +112,8 @@ pub fn hit_test_stack<'a>(
     buffer: &'a mut [u64],
     refusal: &mut u64,
 ) -> &'a mut [u64]
-    ensures number { λ r. ⌜ now (refusal .exit) ≡ numberOf (hitTestRefusal registry view (length (now (buffer .entry)))) ⌝ }
+    ensures number { λ r. ⌜ now (refusal .exit)
+        ≡ numberOf (hitTestRefusal registry view (length (now (buffer .entry)))) ⌝ }
     ensures front { λ r. ⌜ now r ≡ hitNumbers registry view point (length (now (buffer .entry))) ⌝ }
     ensures start { λ r. ⌜ ptr r ≡ ptr (buffer .entry) ⌝ }
 {

@@ -1,4 +1,5 @@
--- Document 01, Capture: 20, 18 for a bad pointer, 11/12, 18, 8/9, 41, 21. Release of a pointer: 20, 11/12, 8/9, 18, 21. Device captures: 18, 21. Each after 42.
+-- RULES.md, Focus, captures, compositions: capture 20, 18 for a bad pointer, 11/12, 18, 8/9, 41, 21; release of a
+-- pointer 20, 11/12, 8/9, 18, 21; device captures 18, 21. Each after 42.
 use Prim.Native.Nat.{ℕ}
 use mathlib.Core.Bool.{Bool, cond, not, _&&_, _||_}
 use mathlib.Core.List.{List, [], _++_}
@@ -33,7 +34,7 @@ use Rattle.records.specs.Views.{viewAt, viewRefusal, viewSlots, withView, withP
 use Rattle.composition_input.specs.Focus.{entryRefusal, ownView, interactiveRefusal, withViewRecord}
 use Rattle.composition_input.specs.declared.answer.CapturesReleased.{CapturesReleased}
 
--- document 01, Modules: PRIMARY, the pointer of device 1, generation 1, contact 0
+-- RULES.md, Validity: PRIMARY, the pointer of device 1, generation 1, contact 0
 abbrev pub primary : CompositionPointerId
 primary = record { device = 1; «device_generation» = 1; contact = 0 }
 
@@ -55,7 +56,8 @@ captureRefusal r p surface expected =
     (thenRefusal (surfaceRefusal (r .surfaces) surface)
     (thenRefusal (interactiveRefusal r surface)
     (thenRefusal (viewRefusal (r .views) (ownView r surface))
-    (refusalIf (not (accepts captures captureKey (capture p surface) (ownRecord r surface .«pointer_captures»))) PortLimit)))))
+    (refusalIf (not (accepts captures captureKey (capture p surface) (ownRecord r surface .«pointer_captures»)))
+    PortLimit)))))
 
 -- the map takes the pointer, and PRIMARY sets the view's single field too
 abbrev pub capturedView : CompositionPointerId → GenerationalHandle → ViewRecord → ViewRecord
@@ -78,12 +80,15 @@ releasedView p v =
 -- what both releases refuse before they look whether the panel has the pointer
 abbrev pub ownerRefusal : CompositionRegistry → GenerationalHandle → ℕ → Outcome
 ownerRefusal r surface expected =
-    thenRefusal (entryRefusal r expected) (thenRefusal (surfaceRefusal (r .surfaces) surface) (viewRefusal (r .views) (ownView r surface)))
+    thenRefusal (entryRefusal r expected)
+    (thenRefusal (surfaceRefusal (r .surfaces) surface) (viewRefusal (r .views) (ownView r surface)))
 
 abbrev pub releaseForRefusal : CompositionRegistry → CompositionPointerId → GenerationalHandle → ℕ → Outcome
 releaseForRefusal r p surface expected =
     thenRefusal (ownerRefusal r surface expected)
-    (refusalIf (not (holdsHandle (surfaceOf (found captures captureKey (pointerKey p) (ownRecord r surface .«pointer_captures»))) surface)) NotInteractive)
+    (refusalIf (not (holdsHandle
+    (surfaceOf (found captures captureKey (pointerKey p) (ownRecord r surface .«pointer_captures»))) surface))
+    NotInteractive)
 
 unfoldable pub releasePointerFor : CompositionRegistry → CompositionPointerId → GenerationalHandle → ℕ → Changed
 releasePointerFor r p surface expected =
@@ -115,7 +120,8 @@ losesPrimary device generation t =
 -- the map without the captures of the device; where PRIMARY was among them, the view's single field empties too
 abbrev pub leftView : ℕ → ℕ → ViewRecord → ViewRecord
 leftView device generation v =
-    let left = withPointerCaptures (retained captures (λ e. not (isOfDevice device generation e)) (v .«pointer_captures»)) v in
+    let left =
+    withPointerCaptures (retained captures (λ e. not (isOfDevice device generation e)) (v .«pointer_captures»)) v in
     cond (losesPrimary device generation (v .«pointer_captures»)) (withPointerCapture O.None left) left
 
 -- the captures of the device in the view of a slot
@@ -130,17 +136,24 @@ deviceCaptures views device generation = iterBelow (λ i l. l ++ takenAt views d
 
 abbrev pub clearedAt : ℕ → ℕ → ℕ → ViewTable → ViewTable
 clearedAt device generation i t =
-    cond (slotAt (t .arena) i .filled) (withView (viewHandle t i) (leftView device generation (viewAt t (viewHandle t i))) t) t
+    cond (slotAt (t .arena) i .filled)
+    (withView (viewHandle t i) (leftView device generation (viewAt t (viewHandle t i))) t) t
 
 unfoldable pub deviceCleared : ViewTable → ℕ → ℕ → ViewTable
 deviceCleared views device generation = iterBelow (clearedAt device generation) (viewSlots views) views
 
 abbrev pub deviceRefusal : CompositionRegistry → ℕ → ℕ → Outcome
-deviceRefusal r device generation = thenRefusal (damageRefusal r) (refusalIf (eqb device 0 || eqb generation 0) NotInteractive)
+deviceRefusal r device generation =
+    thenRefusal (damageRefusal r) (refusalIf (eqb device 0 || eqb generation 0) NotInteractive)
 
 -- the list stands if the call is accepted
 abbrev pub capturesReleased : List Capture → Changed → CapturesReleased
-capturesReleased l c = record { outcome = c .outcome; released = packed captureList (cond (isAccepted (c .outcome)) l []); registry = c .registry }
+capturesReleased l c =
+    record {
+      outcome = c .outcome;
+      released = packed captureList (cond (isAccepted (c .outcome)) l []);
+      registry = c .registry;
+    }
 
 -- the revision rises only if a capture is let go
 abbrev pub deviceSettled : CompositionRegistry → ℕ → ℕ → Changed

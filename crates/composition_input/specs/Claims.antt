@@ -1,4 +1,5 @@
--- Document 01, every call: what a refusal leaves and what an accepted change raises, claimed of each call on focus, captures and compositions.
+-- RULES.md, Revisions: what a refusal leaves and what an accepted change raises, claimed of each call on focus,
+-- captures and compositions.
 use Prim.Native.Nat.{ℕ, _+_}
 use mathlib.Core.Path.{_≡_}
 use Rattle.handles.specs.declared.GenerationalHandle.{GenerationalHandle}
@@ -25,12 +26,21 @@ pub record ReleaseSettles (before : CompositionRegistry) (a : CapturesReleased) 
   pub unlisted : a .outcome ≡ Accepted → a .released .len ≡ 0 → a .registry ≡ before
 
 pub record InputClaims : Type 0 where
-  pub set-focus : (r : CompositionRegistry) (view : GenerationalHandle) (surface : OptionalHandle) (expected : ℕ) → Settled r (setFocus r view surface expected)
-  pub begin-ime : (r : CompositionRegistry) (surface : GenerationalHandle) (expected : ℕ) → Settled r (beginIme r surface expected)
-  pub end-ime : (r : CompositionRegistry) (surface : GenerationalHandle) (expected : ℕ) → Settled r (endIme r surface expected)
-  pub suspend-view-input : (r : CompositionRegistry) (view : GenerationalHandle) (expected : ℕ) → Settles r (suspendViewInput r view expected .outcome) (suspendViewInput r view expected .registry)
-  pub capture-pointer-for : (r : CompositionRegistry) (p : CompositionPointerId) (surface : GenerationalHandle) (expected : ℕ) → Settled r (capturePointerFor r p surface expected)
-  pub capture-pointer : (r : CompositionRegistry) (surface : GenerationalHandle) (expected : ℕ) → Settled r (capturePointerFor r primary surface expected)
-  pub release-pointer-for : (r : CompositionRegistry) (p : CompositionPointerId) (surface : GenerationalHandle) (expected : ℕ) → Settled r (releasePointerFor r p surface expected)
-  pub release-pointer : (r : CompositionRegistry) (surface : GenerationalHandle) (expected : ℕ) → Settled r (releasePointer r surface expected)
-  pub release-device-pointer-captures : (r : CompositionRegistry) (device generation : ℕ) → ReleaseSettles r (releaseDevicePointerCaptures r device generation)
+  pub set-focus : (r : CompositionRegistry) (view : GenerationalHandle) (surface : OptionalHandle) (expected : ℕ)
+      → Settled r (setFocus r view surface expected)
+  pub begin-ime : (r : CompositionRegistry) (surface : GenerationalHandle) (expected : ℕ)
+      → Settled r (beginIme r surface expected)
+  pub end-ime : (r : CompositionRegistry) (surface : GenerationalHandle) (expected : ℕ)
+      → Settled r (endIme r surface expected)
+  pub suspend-view-input : (r : CompositionRegistry) (view : GenerationalHandle) (expected : ℕ)
+      → Settles r (suspendViewInput r view expected .outcome) (suspendViewInput r view expected .registry)
+  pub capture-pointer-for : (r : CompositionRegistry) (p : CompositionPointerId) (surface : GenerationalHandle)
+      (expected : ℕ) → Settled r (capturePointerFor r p surface expected)
+  pub capture-pointer : (r : CompositionRegistry) (surface : GenerationalHandle) (expected : ℕ)
+      → Settled r (capturePointerFor r primary surface expected)
+  pub release-pointer-for : (r : CompositionRegistry) (p : CompositionPointerId) (surface : GenerationalHandle)
+      (expected : ℕ) → Settled r (releasePointerFor r p surface expected)
+  pub release-pointer : (r : CompositionRegistry) (surface : GenerationalHandle) (expected : ℕ)
+      → Settled r (releasePointer r surface expected)
+  pub release-device-pointer-captures : (r : CompositionRegistry) (device generation : ℕ)
+      → ReleaseSettles r (releaseDevicePointerCaptures r device generation)

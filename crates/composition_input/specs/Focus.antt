@@ -1,4 +1,5 @@
--- Document 01, Focus: 20, 11/12, 17, 18, 8/9, 21; none: 20, 8/9, 21. Begin IME: 20, 11/12, 19, 8/9, 18, 21. End IME: 20, 11/12, 8/9, 18, 21. Suspend: 20, 8/9, 21. Each after 42.
+-- RULES.md, Focus, captures, compositions: focus 20, 11/12, 17, 18, 8/9, 21; none: 20, 8/9, 21; begin IME 20, 11/12,
+-- 19, 8/9, 18, 21; end IME 20, 11/12, 8/9, 18, 21. Suspend: 20, 8/9, 21. Each after 42.
 use Prim.Native.Nat.{ℕ}
 use mathlib.Core.Bool.{Bool, true, false, not}
 use mathlib.Core.List.{[]}
@@ -54,11 +55,13 @@ focusTargetRefusal r view (O.Some surface) =
 
 abbrev pub focusRefusal : CompositionRegistry → GenerationalHandle → OptionalHandle → ℕ → Outcome
 focusRefusal r view surface expected =
-    thenRefusal (entryRefusal r expected) (thenRefusal (focusTargetRefusal r view surface) (viewRefusal (r .views) view))
+    thenRefusal (entryRefusal r expected)
+    (thenRefusal (focusTargetRefusal r view surface) (viewRefusal (r .views) view))
 
 unfoldable pub setFocus : CompositionRegistry → GenerationalHandle → OptionalHandle → ℕ → Changed
 setFocus r view surface expected =
-    settled (focusRefusal r view surface expected) r (withViewRecord view (withFocus surface (viewAt (r .views) view)) r)
+    settled (focusRefusal r view surface expected) r
+    (withViewRecord view (withFocus surface (viewAt (r .views) view)) r)
 
 -- ---- begin and end a composition
 abbrev pub beginImeRefusal : CompositionRegistry → GenerationalHandle → ℕ → Outcome
@@ -91,7 +94,8 @@ abbrev pub suspendRefusal : CompositionRegistry → GenerationalHandle → ℕ �
 suspendRefusal r view expected = thenRefusal (entryRefusal r expected) (viewRefusal (r .views) view)
 
 abbrev pub suspendedView : ViewRecord → ViewRecord
-suspendedView v = withIme O.None (withPointerCaptures (packed captures []) (withPointerCapture O.None (withFocus O.None v)))
+suspendedView v =
+    withIme O.None (withPointerCaptures (packed captures []) (withPointerCapture O.None (withFocus O.None v)))
 
 abbrev pub stateIf : Bool → ViewInputState → OptionalInputState
 stateIf true s = S.Some s

@@ -50,7 +50,8 @@ fn with_captures(
     is_touched: bool,
     holder: OptionalHandle,
 ) -> ViewRecord
-    ensures { λ r. ⌜ r ≡ cond «is_touched» (withPointerCapture holder (withPointerCaptures captures view)) (withPointerCaptures captures view) ⌝ }
+    ensures { λ r. ⌜ r ≡ cond «is_touched» (withPointerCapture holder (withPointerCaptures captures view))
+        (withPointerCaptures captures view) ⌝ }
 {
     let changed = view.with_pointer_captures(captures);
     if is_touched {
@@ -59,6 +60,7 @@ fn with_captures(
     changed
 }
 
+// A panel takes a pointer: from now on the pointer's events in its view go to that panel alone.
 pub fn capture_pointer_for(
     registry: CompositionRegistry,
     pointer: CompositionPointerId,
@@ -88,6 +90,7 @@ pub fn capture_pointer_for(
     )
 }
 
+// A panel takes PRIMARY, the pointer of events that name none.
 pub fn capture_pointer(
     registry: CompositionRegistry,
     surface: GenerationalHandle,
@@ -103,6 +106,7 @@ pub fn capture_pointer(
     )
 }
 
+// A panel gives back a pointer that it has captured.
 pub fn release_pointer_for(
     registry: CompositionRegistry,
     pointer: CompositionPointerId,
@@ -279,6 +283,7 @@ fn released_with(list: CaptureList, changed: Changed) -> CapturesReleased
     }
 }
 
+// A device is gone: its captures end in every view, and are listed.
 pub fn release_device_pointer_captures(
     registry: CompositionRegistry,
     device: u64,

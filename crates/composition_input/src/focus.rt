@@ -44,6 +44,7 @@ fn focus_target_refusal(
     }
 }
 
+// The panel that keys and text of a view go to, or none.
 pub fn set_focus(
     registry: CompositionRegistry,
     view: GenerationalHandle,
@@ -63,6 +64,7 @@ pub fn set_focus(
     )
 }
 
+// A panel with the focus that accepts text starts a composition of text.
 pub fn begin_ime(
     registry: CompositionRegistry,
     surface: GenerationalHandle,
@@ -88,6 +90,7 @@ pub fn begin_ime(
     )
 }
 
+// A panel ends its composition of text.
 pub fn end_ime(
     registry: CompositionRegistry,
     surface: GenerationalHandle,
@@ -141,6 +144,7 @@ fn suspended_with(state: ViewInputState, changed: Changed) -> Suspended
     }
 }
 
+// A view loses its focus, its captures and its composition; the answer says what was lost.
 pub fn suspend_view_input(
     registry: CompositionRegistry,
     view: GenerationalHandle,

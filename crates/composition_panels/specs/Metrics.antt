@@ -1,4 +1,5 @@
--- Document 01, metrics: 14, 8/9, 20, 21, after 42. The 20 and the first 21 are the view's own metrics counter; that 21 comes before any change.
+-- RULES.md, Metrics: 14, 8/9, 20, 21, after 42. The 20 and the first 21 are the view's own metrics counter; that 21
+-- comes before any change.
 use Prim.Native.Nat.{ℕ, _+_}
 use mathlib.Core.Bool.{Bool, true, false, cond, not}
 use lib.Dec.{eqb}
@@ -42,7 +43,8 @@ abbrev pub newMetrics : CompositionRegistry → GenerationalHandle → ViewMetri
 newMetrics r view update = nextMetrics (viewAt (r .views) view .metrics) update
 
 abbrev pub metricsUpdated : ViewMetrics → Changed → MetricsUpdated
-metricsUpdated m c = record { outcome = c .outcome; metrics = metricsIf (isAccepted (c .outcome)) m; registry = c .registry }
+metricsUpdated m c =
+    record { outcome = c .outcome; metrics = metricsIf (isAccepted (c .outcome)) m; registry = c .registry }
 
 unfoldable pub updateViewMetrics : CompositionRegistry → GenerationalHandle → ViewMetricsUpdate → ℕ → MetricsUpdated
 updateViewMetrics r view update expected =

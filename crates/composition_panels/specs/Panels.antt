@@ -1,4 +1,4 @@
--- Document 01, Panels: attach 13, 8/9, 4, 3, 21; geometry 20, 13, 11/12, 21; policy 20, 11/12, 21. Each after 42.
+-- RULES.md, Panels: attach 13, 8/9, 4, 3, 21; geometry 20, 13, 11/12, 21; policy 20, 11/12, 21. Each after 42.
 use Prim.Native.Nat.{ℕ}
 use mathlib.Core.Bool.{not}
 use mathlib.Core.List.{List}
@@ -38,7 +38,8 @@ attachRefusal r d =
     thenRefusal (damageRefusal r)
     (thenRefusal (refusalIf (not (isValidGeometry (d .geometry))) InvalidGeometry)
     (thenRefusal (viewRefusal (r .views) (d .view))
-    (thenRefusal (refusalIf (eqb (layerCount (r .views) (d .view)) (r .limits .«max_surfaces_per_view»)) PerViewCapacity)
+    (thenRefusal (refusalIf (eqb (layerCount (r .views) (d .view)) (r .limits .«max_surfaces_per_view»))
+    PerViewCapacity)
     (refusalIf (eqb (r .surfaces .arena .live) (r .limits .«max_surfaces»)) Capacity))))
 
 abbrev pub newSurface : CompositionRegistry → Allocation
@@ -50,7 +51,8 @@ surfaceAdded made d t = withSurface (made .handle) (record { descriptor = d }) (
 
 -- a view with the new panel in its place among the layers
 abbrev pub layerAdded : List SurfaceRecord → GenerationalHandle → GenerationalHandle → ViewTable → ViewTable
-layerAdded records surface view t = withView view (withLayers (layersWith records surface (viewAt t view .surfaces)) (viewAt t view)) t
+layerAdded records surface view t =
+    withView view (withLayers (layersWith records surface (viewAt t view .surfaces)) (viewAt t view)) t
 
 -- the registry with the new panel; it has no registration: those of its slot are dropped
 unfoldable pub attached : Allocation → SurfaceDescriptor → CompositionRegistry → CompositionRegistry
@@ -79,7 +81,8 @@ updateSurfaceGeometry r surface g expected =
 -- ---- policy
 abbrev pub policyRefusal : CompositionRegistry → GenerationalHandle → ℕ → Outcome
 policyRefusal r surface expected =
-    thenRefusal (damageRefusal r) (thenRefusal (conflictRefusal (r .revision) expected) (surfaceRefusal (r .surfaces) surface))
+    thenRefusal (damageRefusal r)
+    (thenRefusal (conflictRefusal (r .revision) expected) (surfaceRefusal (r .surfaces) surface))
 
 unfoldable pub updateSurfaceInputPolicy : CompositionRegistry → GenerationalHandle → SurfaceInputPolicy → ℕ → Changed
 updateSurfaceInputPolicy r surface input expected =

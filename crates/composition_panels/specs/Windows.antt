@@ -1,4 +1,5 @@
--- Document 01, Windows and views: create window 3, 21; close window 5/6, 7, 22, 21; create view 5/6, 3, 21; close view 8/9, 10, 22, 21. Each after 42.
+-- RULES.md, Windows and views: create window 3, 21; close window 5/6, 7, 22, 21; create view 5/6, 3, 21; close view
+-- 8/9, 10, 22, 21. Each after 42.
 use Prim.Native.Nat.{ℕ}
 use mathlib.Core.Bool.{Bool, true, false, not, _&&_}
 use lib.ListN.{length}
@@ -43,7 +44,8 @@ exhaustedRefusal release.GenerationExhausted = Refused GenerationExhausted
 
 -- ---- create window
 abbrev pub createWindowRefusal : CompositionRegistry → Outcome
-createWindowRefusal r = thenRefusal (damageRefusal r) (refusalIf (eqb (r .windows .live) (r .limits .«max_windows»)) Capacity)
+createWindowRefusal r =
+    thenRefusal (damageRefusal r) (refusalIf (eqb (r .windows .live) (r .limits .«max_windows»)) Capacity)
 
 abbrev pub newWindow : CompositionRegistry → Allocation
 newWindow r = allocated (r .windows) (r .«first_generation»)
@@ -54,7 +56,8 @@ createWindow r = created (newWindow r .handle) (settled (createWindowRefusal r) 
 -- ---- close window
 -- a live view that stands in a window
 abbrev pub standsIn : ViewTable → GenerationalHandle → ℕ → Bool
-standsIn views window i = slotAt (views .arena) i .filled && sameHandle (viewAt views (viewHandle views i) .window) window
+standsIn views window i =
+    slotAt (views .arena) i .filled && sameHandle (viewAt views (viewHandle views i) .window) window
 
 unfoldable pub isWindowInUse : ViewTable → GenerationalHandle → Bool
 isWindowInUse views window = not (allBelow (λ i. not (standsIn views window i)) (viewSlots views))
@@ -98,4 +101,5 @@ closeViewRefusal r view =
     (exhaustedRefusal (released (r .views .arena) view .outcome))))
 
 unfoldable pub closeView : CompositionRegistry → GenerationalHandle → Changed
-closeView r view = settled (closeViewRefusal r view) r (withViews (viewsWith (released (r .views .arena) view .arena) (r .views)) r)
+closeView r view =
+    settled (closeViewRefusal r view) r (withViews (viewsWith (released (r .views .arena) view .arena) (r .views)) r)

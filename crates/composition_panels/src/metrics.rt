@@ -62,6 +62,7 @@ fn metrics_with(metrics: ViewMetrics, changed: Changed) -> MetricsUpdated
     }
 }
 
+// The place, size, scale, safe area and visibility of a view change.
 pub fn update_view_metrics(
     registry: CompositionRegistry,
     view: GenerationalHandle,

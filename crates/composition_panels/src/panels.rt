@@ -84,6 +84,7 @@ fn attach(
         .with_shortcuts(shortcuts)
 }
 
+// A new panel in a view, in its place among the layers.
 pub fn attach_surface(registry: CompositionRegistry, descriptor: SurfaceDescriptor) -> Created
     ensures { λ r. ⌜ r ≡ attachSurface registry descriptor ⌝ }
 {
@@ -109,6 +110,7 @@ fn geometry_refusal(
     registry.damage().then(conflict.then(invalid.then(live)))
 }
 
+// The bounds, clip, matrix, opacity and hit testing of a panel change.
 pub fn update_surface_geometry(
     registry: CompositionRegistry,
     surface: GenerationalHandle,
@@ -137,6 +139,7 @@ fn policy_refusal(
     registry.damage().then(conflict.then(live))
 }
 
+// What a panel does with the events that reach it changes; nothing else does.
 pub fn update_surface_input_policy(
     registry: CompositionRegistry,
     surface: GenerationalHandle,

@@ -19,6 +19,7 @@ fn create_view_refusal(registry: CompositionRegistry, window: GenerationalHandle
     registry.damage().then(live.then(capacity))
 }
 
+// A new view in a window.
 pub fn create_view(registry: CompositionRegistry, window: GenerationalHandle) -> Created
     ensures { λ r. ⌜ r ≡ createView registry window ⌝ }
 {
@@ -56,6 +57,7 @@ fn close_view_refusal(registry: CompositionRegistry, view: GenerationalHandle) -
     registry.damage().then(live.then(in_use.then(exhausted)))
 }
 
+// A view without panels ends.
 pub fn close_view(registry: CompositionRegistry, view: GenerationalHandle) -> Changed
     ensures { λ r. ⌜ r ≡ closeView registry view ⌝ }
 {

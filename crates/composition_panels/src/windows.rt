@@ -17,6 +17,7 @@ fn create_window_refusal(registry: CompositionRegistry) -> Outcome
     registry.damage().then(records::error::refuse_if(full, CompositionError::Capacity))
 }
 
+// A new window.
 pub fn create_window(registry: CompositionRegistry) -> Created
     ensures { λ r. ⌜ r ≡ createWindow registry ⌝ }
 {
@@ -72,6 +73,7 @@ fn close_window_refusal(registry: CompositionRegistry, window: GenerationalHandl
     registry.damage().then(live.then(in_use.then(exhausted)))
 }
 
+// A window without views ends.
 pub fn close_window(registry: CompositionRegistry, window: GenerationalHandle) -> Changed
     ensures { λ r. ⌜ r ≡ closeWindow registry window ⌝ }
 {

@@ -1,4 +1,4 @@
--- Document 01, reads: of a view 42, 8/9; of a panel 42, 11/12. The value read stands beside the outcome, and a blank
+-- RULES.md, Reads: of a view 42, 8/9; of a panel 42, 11/12. The value read stands beside the outcome, and a blank
 -- one beside a refusal.
 use mathlib.Core.Path.{refl}
 use mathlib.Core.Bool.{cond}
@@ -58,17 +58,31 @@ viewPointerCaptures r v = record { outcome = viewReadRefusal r v; captures = vie
 
 -- the last arbitrations, oldest first: 42, and none of a damaged registry
 abbrev pub tracesRead : CompositionRegistry → TracesRead
-tracesRead r = record { outcome = damageRefusal r; traces = cond (isAccepted (damageRefusal r)) (r .traces) (packed traces []) }
+tracesRead r =
+    record { outcome = damageRefusal r; traces = cond (isAccepted (damageRefusal r)) (r .traces) (packed traces []) }
 
 -- a list of descriptors as a table of 16
 abbrev pub descriptors : Shape SurfaceDescriptor Descriptors
-descriptors = record { size = 16; blank = noSurface .descriptor; make = λ l n. record { items = l; len = n }; all = λ t. t .items; len = λ t. t .len; all-make = λ l n. refl; len-make = λ l n. refl }
+descriptors =
+    record {
+      size = 16;
+      blank = noSurface .descriptor;
+      make = λ l n. record { items = l; len = n };
+      all = λ t. t .items;
+      len = λ t. t .len;
+      all-make = λ l n. refl;
+      len-make = λ l n. refl;
+    }
 
 -- the panels of a view, the lowest first, and what describes each
 abbrev pub viewLayers : CompositionRegistry → GenerationalHandle → LayersRead
 viewLayers r v =
     let own = viewRead r v .surfaces in
-    record { outcome = viewReadRefusal r v; layers = own; descriptors = packed descriptors (map (descriptorOf (r .surfaces)) (entriesOf layers own)) }
+    record {
+      outcome = viewReadRefusal r v;
+      layers = own;
+      descriptors = packed descriptors (map (descriptorOf (r .surfaces)) (entriesOf layers own));
+    }
 
 -- what describes a panel
 abbrev pub surfaceDescriptor : CompositionRegistry → GenerationalHandle → DescriptorRead

@@ -97,6 +97,7 @@ fn surface_read(registry: CompositionRegistry, surface: GenerationalHandle) -> S
     records::surface::blank()
 }
 
+// The window that a view stands in.
 pub fn view_window(registry: CompositionRegistry, view: GenerationalHandle) -> WindowRead
     ensures { λ r. ⌜ r ≡ viewWindow registry view ⌝ }
 {
@@ -106,6 +107,7 @@ pub fn view_window(registry: CompositionRegistry, view: GenerationalHandle) -> W
     WindowRead { outcome, window }
 }
 
+// The metrics of a view.
 pub fn view_metrics(registry: CompositionRegistry, view: GenerationalHandle) -> MetricsRead
     ensures { λ r. ⌜ r ≡ viewMetrics registry view ⌝ }
 {
@@ -115,6 +117,7 @@ pub fn view_metrics(registry: CompositionRegistry, view: GenerationalHandle) -> 
     MetricsRead { outcome, metrics }
 }
 
+// The focus, the single capture field and the composition of a view.
 pub fn view_input_state(registry: CompositionRegistry, view: GenerationalHandle) -> InputStateRead
     ensures { λ r. ⌜ r ≡ viewInputState registry view ⌝ }
 {
@@ -123,6 +126,7 @@ pub fn view_input_state(registry: CompositionRegistry, view: GenerationalHandle)
     InputStateRead { outcome, state }
 }
 
+// The captured pointers of a view, each with its panel.
 pub fn view_pointer_captures(
     registry: CompositionRegistry,
     view: GenerationalHandle,
@@ -174,6 +178,7 @@ fn describe(surfaces: SurfaceTable, layers: Layers) -> Descriptors
     next
 }
 
+// The panels of a view, lowest first, each with its descriptor.
 pub fn view_layers(registry: CompositionRegistry, view: GenerationalHandle) -> LayersRead
     ensures { λ r. ⌜ r ≡ viewLayers registry view ⌝ }
 {
@@ -188,6 +193,7 @@ pub fn view_layers(registry: CompositionRegistry, view: GenerationalHandle) -> L
     }
 }
 
+// What a panel was attached with, as it stands now.
 pub fn surface_descriptor(
     registry: CompositionRegistry,
     surface: GenerationalHandle,
@@ -223,30 +229,35 @@ pub fn session(registry: CompositionRegistry) -> GenerationalHandle
     registry.session
 }
 
+// The epoch that the registry was started with.
 pub fn session_epoch(registry: CompositionRegistry) -> u64
     ensures { λ r. ⌜ r ≡ registry .«session_epoch» ⌝ }
 {
     registry.session_epoch
 }
 
+// How often the registry has changed, counted from its first revision.
 pub fn revision(registry: CompositionRegistry) -> u64
     ensures { λ r. ⌜ r ≡ registry .revision ⌝ }
 {
     registry.revision
 }
 
+// How many windows are live.
 pub fn live_window_count(registry: CompositionRegistry) -> usize
     ensures { λ r. ⌜ r ≡ registry .windows .live ⌝ }
 {
     registry.windows.live
 }
 
+// How many views are live.
 pub fn live_view_count(registry: CompositionRegistry) -> usize
     ensures { λ r. ⌜ r ≡ registry .views .arena .live ⌝ }
 {
     registry.views.arena.live
 }
 
+// How many panels are live.
 pub fn live_surface_count(registry: CompositionRegistry) -> usize
     ensures { λ r. ⌜ r ≡ registry .surfaces .arena .live ⌝ }
 {

@@ -121,7 +121,7 @@ module _ (r : CompositionRegistry) (h : GenerationalHandle) (t : Registrations) 
       ap (λ (x : CompositionRegistry). entriesOf shortcuts (x .shortcuts)) (accepted-is (registerRefusal r h t n) r changed a)
       ∙ rw room (entries-packed shortcuts (replacedEntries (h .index) t (r .shortcuts)))
 
--- ---- document 01, Counter table: the row of an Observe panel
+-- ---- RULES.md, Counter table: the row of an Observe panel
 module _ (r : CompositionRegistry) (h : GenerationalHandle) (o : Observing r h) where
   -- the checks that are left
   abbrev later : Registrations → Outcome

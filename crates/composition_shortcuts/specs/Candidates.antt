@@ -1,4 +1,5 @@
--- Document 01, System shortcut: the greatest wins by priority, scope (View over Window over Session), same view, z_order, handle.
+-- RULES.md, System shortcut: the greatest wins by priority, scope (View over Window over Session), same view, z_order,
+-- handle.
 use Prim.Native.Nat.{ℕ}
 use mathlib.Core.Bool.{Bool, cond}
 use mathlib.Core.List.{List}
@@ -32,14 +33,21 @@ sameView own view = cond (sameHandle own view) 1 0
 
 -- what is compared of a registration, and the panel that it is for
 abbrev pub candidateWith : SlotShortcut → SurfaceDescriptor → ℕ → ℕ → GenerationalHandle → Candidate
-candidateWith s d rank same h = record { priority = s .registration .priority; «scope_rank» = rank; «same_view» = same; «z_order» = d .«z_order»; surface = h }
+candidateWith s d rank same h =
+    record {
+      priority = s .registration .priority;
+      «scope_rank» = rank;
+      «same_view» = same;
+      «z_order» = d .«z_order»;
+      surface = h;
+    }
 
 unfoldable pub candidateOf : SurfaceTable → GenerationalHandle → SlotShortcut → Candidate
 candidateOf surfaces view s =
     let d = ownerDescriptor surfaces s in
     candidateWith s d (scopeRank (s .registration .scope)) (sameView (d .view) view) (ownerOf (surfaces .arena) s)
 
--- "by priority, scope, same view, z_order, handle"
+-- "by priority, scope (View over Window over Session), same view, z_order, handle"
 abbrev pub rankOf : Candidate → ℤ × (ℕ × (ℕ × (ℤ × GenerationalHandle)))
 rankOf c = (c .priority, (c .«scope_rank», (c .«same_view», (c .«z_order», c .surface))))
 

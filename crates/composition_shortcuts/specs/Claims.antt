@@ -35,7 +35,8 @@ pub record Wins (r : CompositionRegistry) (view : GenerationalHandle) (mask : �
   pub registration : SlotShortcut
   pub owned : ownerOf (r .surfaces .arena) registration ≡ h
   pub counting : Counts r view mask registration
-  pub unbeaten : (s : SlotShortcut) → Counts r view mask s → isLess (candidateOf (r .surfaces) view registration) (candidateOf (r .surfaces) view s) ≡ false
+  pub unbeaten : (s : SlotShortcut) → Counts r view mask s
+      → isLess (candidateOf (r .surfaces) view registration) (candidateOf (r .surfaces) view s) ≡ false
 
 -- bit k of the 64 stands in both masks
 pub record Shared (a b k : ℕ) : Type 0 where
@@ -49,17 +50,20 @@ pub record Observing (r : CompositionRegistry) (h : GenerationalHandle) : Type 0
   pub live : surfaceStatus (r .surfaces) h ≡ Live
   pub observe : descriptorOf (r .surfaces) h .input ≡ Observe
 
--- document 01's number of a set call with the registry's own revision
+-- REFUSALS.md's number of a set call with the registry's own revision
 abbrev pub setNumber : CompositionRegistry → GenerationalHandle → Registrations → ℕ
 setNumber r h t = numberOf (registerSurfaceSystemShortcutSet r h t (r .revision) .outcome)
 
 pub record ShortcutClaims : Type 0 where
   -- the greatest of those that count wins
-  pub winner-wins : (r : CompositionRegistry) (view : GenerationalHandle) (mask : ℕ) (h : GenerationalHandle) → resolveSystemShortcut r view mask .surface ≡ Some h → Wins r view mask h
-  -- document 01: none is answered exactly if none counts
-  pub none-counts : (r : CompositionRegistry) (view : GenerationalHandle) (mask : ℕ) → resolveSystemShortcut r view mask .outcome ≡ Accepted → resolveSystemShortcut r view mask .surface ≡ None
+  pub winner-wins : (r : CompositionRegistry) (view : GenerationalHandle) (mask : ℕ) (h : GenerationalHandle)
+      → resolveSystemShortcut r view mask .surface ≡ Some h → Wins r view mask h
+  -- RULES.md, System shortcut: none is answered exactly if none counts
+  pub none-counts : (r : CompositionRegistry) (view : GenerationalHandle) (mask : ℕ)
+      → resolveSystemShortcut r view mask .outcome ≡ Accepted → resolveSystemShortcut r view mask .surface ≡ None
       → (s : SlotShortcut) → Counts r view mask s → ⊥
-  pub none-wins : (r : CompositionRegistry) (view : GenerationalHandle) (mask : ℕ) → ((s : SlotShortcut) → Counts r view mask s → ⊥) → resolveSystemShortcut r view mask .surface ≡ None
+  pub none-wins : (r : CompositionRegistry) (view : GenerationalHandle) (mask : ℕ)
+      → ((s : SlotShortcut) → Counts r view mask s → ⊥) → resolveSystemShortcut r view mask .surface ≡ None
   -- there is one winner: candidates of which neither is less are of one panel
   pub one-winner : (a b : Candidate) → isLess a b ≡ false → isLess b a ≡ false → a .surface ≡ b .surface
   -- a 64-bit and is not 0 exactly if some bit stands in both
@@ -67,13 +71,20 @@ pub record ShortcutClaims : Type 0 where
   pub shared-bit : (a b k : ℕ) → Shared a b k → sharesBit a b ≡ true
   -- a refusal of the set call other than 21 changes nothing, and an accepted one raises the revision by exactly 1
   pub set-settles : (r : CompositionRegistry) (h : GenerationalHandle) (t : Registrations) (n : ℕ)
-      → Settles r (registerSurfaceSystemShortcutSet r h t n .outcome) (registerSurfaceSystemShortcutSet r h t n .registry)
+      → Settles r (registerSurfaceSystemShortcutSet r h t n .outcome)
+      (registerSurfaceSystemShortcutSet r h t n .registry)
   -- an accepted set call leaves the registrations of the other slots, then the list, in their order
-  pub set-stores : (r : CompositionRegistry) (h : GenerationalHandle) (t : Registrations) (n : ℕ) → registerSurfaceSystemShortcutSet r h t n .outcome ≡ Accepted
-      → entriesOf shortcuts (registerSurfaceSystemShortcutSet r h t n .registry .shortcuts) ≡ replacedEntries (h .index) t (r .shortcuts)
+  pub set-stores : (r : CompositionRegistry) (h : GenerationalHandle) (t : Registrations) (n : ℕ)
+      → registerSurfaceSystemShortcutSet r h t n .outcome ≡ Accepted
+      → entriesOf shortcuts (registerSurfaceSystemShortcutSet r h t n .registry .shortcuts)
+      ≡ replacedEntries (h .index) t (r .shortcuts)
   -- an empty list is never refused 18, whatever the policy
-  pub empty-fits : (r : CompositionRegistry) (h : GenerationalHandle) (t : Registrations) (n : ℕ) → t .len ≡ 0 → numberOf (registerSurfaceSystemShortcutSet r h t n .outcome) ≡ 18 → ⊥
-  -- document 01, Counter table: 65 registrations on an Observe panel: 3; one there: 18; none: accepted
-  pub observe-many : (r : CompositionRegistry) (h : GenerationalHandle) → Observing r h → (t : Registrations) → t .len ≡ 65 → setNumber r h t ≡ 3
-  pub observe-one : (r : CompositionRegistry) (h : GenerationalHandle) → Observing r h → (g : SurfaceShortcutRegistration) → setNumber r h (packed registrations (g ∷ [])) ≡ 18
-  pub observe-none : (r : CompositionRegistry) (h : GenerationalHandle) → Observing r h → (r .revision ≡ maxU64 → ⊥) → setNumber r h (packed registrations []) ≡ 0
+  pub empty-fits : (r : CompositionRegistry) (h : GenerationalHandle) (t : Registrations) (n : ℕ) → t .len ≡ 0
+      → numberOf (registerSurfaceSystemShortcutSet r h t n .outcome) ≡ 18 → ⊥
+  -- RULES.md, Counter table: 65 registrations on an Observe panel: 3; one there: 18; none: accepted
+  pub observe-many : (r : CompositionRegistry) (h : GenerationalHandle) → Observing r h → (t : Registrations) → t .len
+      ≡ 65 → setNumber r h t ≡ 3
+  pub observe-one : (r : CompositionRegistry) (h : GenerationalHandle) → Observing r h
+      → (g : SurfaceShortcutRegistration) → setNumber r h (packed registrations (g ∷ [])) ≡ 18
+  pub observe-none : (r : CompositionRegistry) (h : GenerationalHandle) → Observing r h → (r .revision ≡ maxU64 → ⊥)
+      → setNumber r h (packed registrations []) ≡ 0

@@ -1,4 +1,5 @@
--- Document 01, Arbitrate: 8/9 (for a system shortcut: of the first live panel in slot order whose own view is not live and which has a Window registration sharing a class bit).
+-- RULES.md, Arbitrate: 8/9 (for a system shortcut: of the first live panel in slot order whose own view is not live and
+-- which has a Window registration sharing a class bit).
 use Prim.Native.Nat.{ℕ}
 use mathlib.Core.Bool.{Bool, true, false, not, _&&_}
 use mathlib.Core.List.{List}
@@ -27,18 +28,21 @@ isWindow Session = false
 
 -- a Window registration of the slot that shares a class bit
 abbrev pub isAsking : ℕ → ℕ → SlotShortcut → Bool
-isAsking slot mask s = eqb slot (s .slot) && (isWindow (s .registration .scope) && sharesBit (s .registration .«class_mask») mask)
+isAsking slot mask s =
+    eqb slot (s .slot) && (isWindow (s .registration .scope) && sharesBit (s .registration .«class_mask») mask)
 
 abbrev pub asksWindow : ℕ → ℕ → List SlotShortcut → Bool
 asksWindow slot mask l = isSome (first (isAsking slot mask) l)
 
 -- 8/9 of the panel's own view
 abbrev pub ownRefusal : Arena → SurfaceTable → GenerationalHandle → Outcome
-ownRefusal views surfaces panel = statusRefusal (lookupOf views (descriptorOf surfaces panel .view)) InvalidView StaleView
+ownRefusal views surfaces panel =
+    statusRefusal (lookupOf views (descriptorOf surfaces panel .view)) InvalidView StaleView
 
 -- its own view is not live, and it has such a registration
 abbrev pub isRefused : Arena → SurfaceTable → ℕ → List SlotShortcut → GenerationalHandle → Bool
-isRefused views surfaces mask l panel = not (isAccepted (ownRefusal views surfaces panel)) && asksWindow (panel .index) mask l
+isRefused views surfaces mask l panel =
+    not (isAccepted (ownRefusal views surfaces panel)) && asksWindow (panel .index) mask l
 
 abbrev pub refusalOf : Arena → SurfaceTable → Option GenerationalHandle → Outcome
 refusalOf views surfaces none = Accepted
@@ -46,4 +50,5 @@ refusalOf views surfaces (some panel) = ownRefusal views surfaces panel
 
 -- the first such panel of the live ones in slot order
 unfoldable pub ownViewRefusal : Arena → SurfaceTable → ℕ → List SlotShortcut → Outcome
-ownViewRefusal views surfaces mask l = refusalOf views surfaces (first (isRefused views surfaces mask l) (liveHandles (surfaces .arena)))
+ownViewRefusal views surfaces mask l =
+    refusalOf views surfaces (first (isRefused views surfaces mask l) (liveHandles (surfaces .arena)))

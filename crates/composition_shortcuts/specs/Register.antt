@@ -1,4 +1,5 @@
--- Document 01, Panels: shortcuts 20, 11/12, 3 (over 64), 18 (a mask 0, or policy neither Interactive nor Exclusive), 41, 21. Each after 42.
+-- RULES.md, Shortcuts: 20, 11/12, 3 (over 64), 18 (a mask 0, or policy neither Interactive nor Exclusive), 41, 21. Each
+-- after 42.
 use Prim.Native.Nat.{ℕ}
 use mathlib.Core.Path.{refl}
 use mathlib.Core.Bool.{Bool, cond, not, _&&_}
@@ -53,9 +54,10 @@ withSlot slot g = record { slot = slot; registration = g }
 
 -- the registrations of all other slots, then the list in its order
 abbrev pub replacedEntries : ℕ → Registrations → Shortcuts → List SlotShortcut
-replacedEntries slot new t = keep (isOfOtherSlot slot) (entriesOf shortcuts t) ++ map (withSlot slot) (entriesOf registrations new)
+replacedEntries slot new t =
+    keep (isOfOtherSlot slot) (entriesOf shortcuts t) ++ map (withSlot slot) (entriesOf registrations new)
 
--- document 01, Port limits: 256 shortcut registrations in all after the call
+-- RULES.md, Port limits: 256 shortcut registrations in all after the call
 abbrev pub fits : ℕ → Registrations → Shortcuts → Bool
 fits slot new t = leb (length (replacedEntries slot new t)) 256
 
@@ -69,7 +71,8 @@ registerRefusal r surface new expected =
     (thenRefusal (conflictRefusal (r .revision) expected)
     (thenRefusal (surfaceRefusal (r .surfaces) surface)
     (thenRefusal (refusalIf (ltb 64 (new .len)) Capacity)
-    (thenRefusal (refusalIf (not (all (isFit (descriptorOf (r .surfaces) surface .input)) (entriesOf registrations new))) NotInteractive)
+    (thenRefusal (refusalIf (not
+    (all (isFit (descriptorOf (r .surfaces) surface .input)) (entriesOf registrations new))) NotInteractive)
     (refusalIf (not (fits (surface .index) new (r .shortcuts))) PortLimit)))))
 
 unfoldable pub registerSurfaceSystemShortcutSet : CompositionRegistry → GenerationalHandle → Registrations → ℕ → Changed

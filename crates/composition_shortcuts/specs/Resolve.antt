@@ -1,4 +1,4 @@
--- Document 01, System shortcut: the panel that gets the event, or the refusal.
+-- RULES.md, System shortcut: the panel that gets the event, or the refusal.
 use Prim.Native.Nat.{ℕ}
 use mathlib.Core.List.{List, map}
 use Rattle.lists.specs.Lists.{keep}
@@ -45,4 +45,5 @@ winner r view mask = winnerOf (bestAmong (r .views) (r .surfaces) view mask (ent
 
 unfoldable pub resolveSystemShortcut : CompositionRegistry → GenerationalHandle → ℕ → Resolved
 resolveSystemShortcut r view mask =
-    resolvedWith (ownViewRefusal (r .views .arena) (r .surfaces) mask (entriesOf shortcuts (r .shortcuts))) (winner r view mask)
+    resolvedWith (ownViewRefusal (r .views .arena) (r .surfaces) mask (entriesOf shortcuts (r .shortcuts)))
+    (winner r view mask)

@@ -1,4 +1,4 @@
--- Document 01, System shortcut: which registration counts.
+-- RULES.md, System shortcut: which registration counts.
 use Prim.Native.Nat.{ℕ}
 use mathlib.Core.Bool.{Bool, true, not, _&&_}
 use lib.Bits.{bitAnd}

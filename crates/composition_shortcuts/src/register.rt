@@ -113,7 +113,8 @@ fn push(shortcuts: Shortcuts, entry: SlotShortcut) -> Shortcuts
 fn extend(shortcuts: Shortcuts, slot: u32, registrations: Registrations) -> Shortcuts
     requires { ⌜ shortcuts ≡ packed stored (entriesOf stored shortcuts) ⌝ }
     requires { ⌜ length (entriesOf stored shortcuts) + length (entriesOf given registrations) ≤ 256 ⌝ }
-    ensures { λ r. ⌜ r ≡ packed stored (entriesOf stored shortcuts ++ map (withSlot slot) (entriesOf given registrations)) ⌝ }
+    ensures { λ r. ⌜ r ≡ packed stored
+        (entriesOf stored shortcuts ++ map (withSlot slot) (entriesOf given registrations)) ⌝ }
 {
     let mut next = shortcuts;
     let n = registrations.count();
@@ -158,6 +159,7 @@ fn register_refusal(
         .then(conflict.then(live.then(long.then(unfit.then(full)))))
 }
 
+// A panel registers a list of system shortcuts in place of those that it had.
 pub fn register_surface_system_shortcut_set(
     registry: CompositionRegistry,
     surface: GenerationalHandle,
@@ -181,13 +183,15 @@ fn list_of(registration: OptionalRegistration) -> Registrations
     }
 }
 
+// A panel registers one system shortcut, or none, in place of those that it had.
 pub fn register_surface_system_shortcuts(
     registry: CompositionRegistry,
     surface: GenerationalHandle,
     registration: OptionalRegistration,
     expected_revision: u64,
 ) -> Changed
-    ensures { λ r. ⌜ r ≡ registerSurfaceSystemShortcutSet registry surface (registrationList registration) «expected_revision» ⌝ }
+    ensures { λ r. ⌜ r ≡ registerSurfaceSystemShortcutSet registry surface (registrationList registration)
+        «expected_revision» ⌝ }
 {
     register_surface_system_shortcut_set(
         registry,
@@ -211,13 +215,15 @@ fn of_mask(class_mask: u64) -> OptionalRegistration
     })
 }
 
+// A panel registers a class mask for its own view at priority 0, or nothing where the mask is 0.
 pub fn set_surface_system_shortcuts(
     registry: CompositionRegistry,
     surface: GenerationalHandle,
     class_mask: u64,
     expected_revision: u64,
 ) -> Changed
-    ensures { λ r. ⌜ r ≡ registerSurfaceSystemShortcutSet registry surface (registrationList (ofMask «class_mask»)) «expected_revision» ⌝ }
+    ensures { λ r. ⌜ r ≡ registerSurfaceSystemShortcutSet registry surface (registrationList (ofMask «class_mask»))
+        «expected_revision» ⌝ }
 {
     register_surface_system_shortcuts(registry, surface, of_mask(class_mask), expected_revision)
 }

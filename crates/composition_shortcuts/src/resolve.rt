@@ -35,7 +35,8 @@ fn consider(
     class_mask: u64,
     entry: SlotShortcut,
 ) -> OptionalCandidate
-    ensures { λ r. ⌜ ((l : List SlotShortcut) → best ≡ bestAmong views surfaces view «class_mask» l → r ≡ bestAmong views surfaces view «class_mask» (l ++ (entry ∷ []))) ⌝ }
+    ensures { λ r. ⌜ ((l : List SlotShortcut) → best ≡ bestAmong views surfaces view «class_mask» l → r
+        ≡ bestAmong views surfaces view «class_mask» (l ++ (entry ∷ []))) ⌝ }
 {
     if is_counted(views, surfaces, view, class_mask, entry) {
         return greater_of(best, candidate_of(surfaces, view, entry));

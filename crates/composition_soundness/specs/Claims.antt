@@ -1,4 +1,5 @@
--- Document 01, every call: 42 is answered to a damaged registry. No call leads from a registry that the damage test accepts to one that it rejects, whatever it answers.
+-- RULES.md, Damage: 42 is answered to a damaged registry. No call leads from a registry that the damage test accepts to
+-- one that it rejects, whatever it answers.
 use Prim.Native.Nat.{ℕ}
 use mathlib.Core.Path.{_≡_}
 use mathlib.Core.Bool.{true}
@@ -49,26 +50,47 @@ pub record Undamaged (r : CompositionRegistry) : Type 0 where
 pub record SoundnessClaims : Type 0 where
   -- an accepted start and added start
   pub start : (session : GenerationalHandle) (epoch : ℕ) (limits : CompositionLimits) (revision generation : ℕ)
-      → started session epoch limits revision generation .outcome ≡ Accepted → Undamaged (started session epoch limits revision generation .registry)
+      → started session epoch limits revision generation .outcome ≡ Accepted
+      → Undamaged (started session epoch limits revision generation .registry)
   pub create-window : (r : CompositionRegistry) → Undamaged r → Undamaged (createWindow r .registry)
-  pub close-window : (r : CompositionRegistry) → Undamaged r → (window : GenerationalHandle) → Undamaged (closeWindow r window .registry)
-  pub create-view : (r : CompositionRegistry) → Undamaged r → (window : GenerationalHandle) → Undamaged (createView r window .registry)
-  pub close-view : (r : CompositionRegistry) → Undamaged r → (view : GenerationalHandle) → Undamaged (closeView r view .registry)
-  pub metrics : (r : CompositionRegistry) → Undamaged r → (view : GenerationalHandle) (u : ViewMetricsUpdate) (n : ℕ) → Undamaged (updateViewMetrics r view u n .registry)
-  pub attach : (r : CompositionRegistry) → Undamaged r → (d : SurfaceDescriptor) → Undamaged (attachSurface r d .registry)
-  pub geometry : (r : CompositionRegistry) → Undamaged r → (h : GenerationalHandle) (g : SurfaceGeometry) (n : ℕ) → Undamaged (updateSurfaceGeometry r h g n .registry)
-  pub policy : (r : CompositionRegistry) → Undamaged r → (h : GenerationalHandle) (p : SurfaceInputPolicy) (n : ℕ) → Undamaged (updateSurfaceInputPolicy r h p n .registry)
-  pub focus : (r : CompositionRegistry) → Undamaged r → (view : GenerationalHandle) (h : OptionalHandle) (n : ℕ) → Undamaged (setFocus r view h n .registry)
-  pub capture-pointer-for : (r : CompositionRegistry) → Undamaged r → (p : CompositionPointerId) (h : GenerationalHandle) (n : ℕ) → Undamaged (capturePointerFor r p h n .registry)
-  pub capture-pointer : (r : CompositionRegistry) → Undamaged r → (h : GenerationalHandle) (n : ℕ) → Undamaged (capturePointerFor r primary h n .registry)
-  pub release-pointer-for : (r : CompositionRegistry) → Undamaged r → (p : CompositionPointerId) (h : GenerationalHandle) (n : ℕ) → Undamaged (releasePointerFor r p h n .registry)
-  pub release-pointer : (r : CompositionRegistry) → Undamaged r → (h : GenerationalHandle) (n : ℕ) → Undamaged (releasePointer r h n .registry)
-  pub release-device : (r : CompositionRegistry) → Undamaged r → (device generation : ℕ) → Undamaged (releaseDevicePointerCaptures r device generation .registry)
-  pub begin-ime : (r : CompositionRegistry) → Undamaged r → (h : GenerationalHandle) (n : ℕ) → Undamaged (beginIme r h n .registry)
-  pub end-ime : (r : CompositionRegistry) → Undamaged r → (h : GenerationalHandle) (n : ℕ) → Undamaged (endIme r h n .registry)
-  pub suspend : (r : CompositionRegistry) → Undamaged r → (view : GenerationalHandle) (n : ℕ) → Undamaged (suspendViewInput r view n .registry)
-  pub register : (r : CompositionRegistry) → Undamaged r → (h : GenerationalHandle) (t : Registrations) (n : ℕ) → Undamaged (registerSurfaceSystemShortcutSet r h t n .registry)
-  pub arbitrate : (r : CompositionRegistry) → Undamaged r → (view : GenerationalHandle) (event : ArbitrationEvent) (hits : Hits) → Undamaged (arbitrated r view event hits .registry)
+  pub close-window : (r : CompositionRegistry) → Undamaged r → (window : GenerationalHandle)
+      → Undamaged (closeWindow r window .registry)
+  pub create-view : (r : CompositionRegistry) → Undamaged r → (window : GenerationalHandle)
+      → Undamaged (createView r window .registry)
+  pub close-view : (r : CompositionRegistry) → Undamaged r → (view : GenerationalHandle)
+      → Undamaged (closeView r view .registry)
+  pub metrics : (r : CompositionRegistry) → Undamaged r → (view : GenerationalHandle) (u : ViewMetricsUpdate) (n : ℕ)
+      → Undamaged (updateViewMetrics r view u n .registry)
+  pub attach : (r : CompositionRegistry) → Undamaged r → (d : SurfaceDescriptor)
+      → Undamaged (attachSurface r d .registry)
+  pub geometry : (r : CompositionRegistry) → Undamaged r → (h : GenerationalHandle) (g : SurfaceGeometry) (n : ℕ)
+      → Undamaged (updateSurfaceGeometry r h g n .registry)
+  pub policy : (r : CompositionRegistry) → Undamaged r → (h : GenerationalHandle) (p : SurfaceInputPolicy) (n : ℕ)
+      → Undamaged (updateSurfaceInputPolicy r h p n .registry)
+  pub focus : (r : CompositionRegistry) → Undamaged r → (view : GenerationalHandle) (h : OptionalHandle) (n : ℕ)
+      → Undamaged (setFocus r view h n .registry)
+  pub capture-pointer-for : (r : CompositionRegistry) → Undamaged r
+      → (p : CompositionPointerId) (h : GenerationalHandle) (n : ℕ) → Undamaged (capturePointerFor r p h n .registry)
+  pub capture-pointer : (r : CompositionRegistry) → Undamaged r → (h : GenerationalHandle) (n : ℕ)
+      → Undamaged (capturePointerFor r primary h n .registry)
+  pub release-pointer-for : (r : CompositionRegistry) → Undamaged r
+      → (p : CompositionPointerId) (h : GenerationalHandle) (n : ℕ) → Undamaged (releasePointerFor r p h n .registry)
+  pub release-pointer : (r : CompositionRegistry) → Undamaged r → (h : GenerationalHandle) (n : ℕ)
+      → Undamaged (releasePointer r h n .registry)
+  pub release-device : (r : CompositionRegistry) → Undamaged r → (device generation : ℕ)
+      → Undamaged (releaseDevicePointerCaptures r device generation .registry)
+  pub begin-ime : (r : CompositionRegistry) → Undamaged r → (h : GenerationalHandle) (n : ℕ)
+      → Undamaged (beginIme r h n .registry)
+  pub end-ime : (r : CompositionRegistry) → Undamaged r → (h : GenerationalHandle) (n : ℕ)
+      → Undamaged (endIme r h n .registry)
+  pub suspend : (r : CompositionRegistry) → Undamaged r → (view : GenerationalHandle) (n : ℕ)
+      → Undamaged (suspendViewInput r view n .registry)
+  pub register : (r : CompositionRegistry) → Undamaged r → (h : GenerationalHandle) (t : Registrations) (n : ℕ)
+      → Undamaged (registerSurfaceSystemShortcutSet r h t n .registry)
+  pub arbitrate : (r : CompositionRegistry) → Undamaged r
+      → (view : GenerationalHandle) (event : ArbitrationEvent) (hits : Hits)
+      → Undamaged (arbitrated r view event hits .registry)
   -- also where 22 leaves the panel out of its view
-  pub close-surface : (r : CompositionRegistry) → Undamaged r → (h : GenerationalHandle) → Undamaged (closeSurface r h .registry)
+  pub close-surface : (r : CompositionRegistry) → Undamaged r → (h : GenerationalHandle)
+      → Undamaged (closeSurface r h .registry)
   pub shutdown : (r : CompositionRegistry) → Undamaged r → Undamaged (shutdownOf r .registry)

@@ -1,4 +1,5 @@
--- Document 01, every call: 42 is only answered to a registry that was damaged between the calls. Claimed of every list of calls from an accepted start, without a premise on the registry.
+-- RULES.md, Damage: 42 is only answered to a registry that was damaged between the calls. Claimed of every list of
+-- calls from an accepted start, without a premise on the registry.
 use Prim.Native.Nat.{ℕ}
 use mathlib.Core.Path.{_≡_}
 use mathlib.Core.Bool.{true}
@@ -22,4 +23,5 @@ pub record HistoryClaims : Type 0 where
   -- so no call after any list of calls answers 42
   pub never-refused : (session : GenerationalHandle) (epoch : ℕ) (limits : CompositionLimits) (revision generation : ℕ)
       → started session epoch limits revision generation .outcome ≡ Accepted
-      → (l : List Call) (c : Call) → answer c (afterAll l (started session epoch limits revision generation .registry)) ≡ Refused Damaged → ⊥
+      → (l : List Call) (c : Call) → answer c (afterAll l (started session epoch limits revision generation .registry))
+      ≡ Refused Damaged → ⊥

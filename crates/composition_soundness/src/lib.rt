@@ -16,7 +16,8 @@ pub fn history_claims()
     ensures { λ r. ⌜ HistoryClaims ⌝ }
 {}
 
-// A registry that the damage test accepts is one that these claims are about: its arrays have the length of their types.
+// A registry that the damage test accepts is one that these claims are about: its arrays have the length of their
+// types.
 pub fn undamaged_if_sound(registry: CompositionRegistry)
     ensures { λ r. ⌜ (isSound registry ≡ true → Undamaged registry) ⌝ }
 {}

@@ -1,4 +1,4 @@
--- Document 01, every call: 42 first, if the registry handed in is damaged in one of these ways, and in no other.
+-- RULES.md, Damage: 42 first, if the registry handed in is damaged in one of these ways, and in no other.
 use Prim.Native.Nat.{ℕ}
 use mathlib.Core.Bool.{Bool, true, cond, not, _&&_, _||_}
 use lib.Dec.{leb, eqb}
@@ -35,7 +35,8 @@ limitsSound l generation = not (anyZero l || (anyOverPort l || eqb generation 0)
 -- counts within table and limit, generations, live counts and free lists of the three slot tables
 unfoldable pub arenasSound : CompositionLimits → Arena → Arena → Arena → Bool
 arenasSound l windows views surfaces =
-    wellFormed windows (l .«max_windows») && (wellFormed views (l .«max_views») && wellFormed surfaces (l .«max_surfaces»))
+    wellFormed windows (l .«max_windows»)
+    && (wellFormed views (l .«max_views») && wellFormed surfaces (l .«max_surfaces»))
 
 -- a stored count exceeds its table: the hits and deliveries of a trace
 abbrev pub traceSound : CompositionTrace → Bool
@@ -45,7 +46,8 @@ traceSound t = leb (t .hits .len) 16 && leb (t .deliveries .len) 16
 unfoldable pub tracesSound : ℕ → Traces → Bool
 tracesSound limit t = leb (t .len) limit && all traceSound (entriesOf traces t)
 
--- its layers are over the table or the limit, name a panel twice, not live or of another view, or are not in layer order
+-- its layers are over the table or the limit, name a panel twice, not live or of another view, or are not in layer
+-- order
 unfoldable pub layersSound : SurfaceTable → ℕ → GenerationalHandle → ViewRecord → Bool
 layersSound surfaces limit view v =
     leb (v .surfaces .len) limit
@@ -67,7 +69,8 @@ viewHandle t i = handleOf i (slotAt (t .arena) i .generation)
 -- a slot that is not filled holds no view
 abbrev pub slotSound : Arena → SurfaceTable → ℕ → ViewTable → ℕ → Bool
 slotSound windows surfaces limit t i =
-    cond (slotAt (t .arena) i .filled) (viewSound windows surfaces limit (viewHandle t i) (viewAt t (viewHandle t i))) true
+    cond (slotAt (t .arena) i .filled) (viewSound windows surfaces limit (viewHandle t i) (viewAt t (viewHandle t i)))
+    true
 
 unfoldable pub viewsSound : Arena → SurfaceTable → ℕ → ViewTable → Bool
 viewsSound windows surfaces limit t = allBelow (slotSound windows surfaces limit t) (t .arena .used)

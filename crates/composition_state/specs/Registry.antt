@@ -19,28 +19,100 @@ use Rattle.records.specs.Errors.{statusRefusal, refusalIf}
 
 -- the registry with one field changed
 abbrev pub withRevision : ℕ → CompositionRegistry → CompositionRegistry
-withRevision n r = record { session = r .session; «session_epoch» = r .«session_epoch»; limits = r .limits; «first_generation» = r .«first_generation»; revision = n; windows = r .windows; views = r .views; surfaces = r .surfaces; shortcuts = r .shortcuts; traces = r .traces }
+withRevision n r =
+    record {
+      session = r .session;
+      «session_epoch» = r .«session_epoch»;
+      limits = r .limits;
+      «first_generation» = r .«first_generation»;
+      revision = n;
+      windows = r .windows;
+      views = r .views;
+      surfaces = r .surfaces;
+      shortcuts = r .shortcuts;
+      traces = r .traces;
+    }
 
 abbrev pub withWindows : Arena → CompositionRegistry → CompositionRegistry
-withWindows w r = record { session = r .session; «session_epoch» = r .«session_epoch»; limits = r .limits; «first_generation» = r .«first_generation»; revision = r .revision; windows = w; views = r .views; surfaces = r .surfaces; shortcuts = r .shortcuts; traces = r .traces }
+withWindows w r =
+    record {
+      session = r .session;
+      «session_epoch» = r .«session_epoch»;
+      limits = r .limits;
+      «first_generation» = r .«first_generation»;
+      revision = r .revision;
+      windows = w;
+      views = r .views;
+      surfaces = r .surfaces;
+      shortcuts = r .shortcuts;
+      traces = r .traces;
+    }
 
 abbrev pub withViews : ViewTable → CompositionRegistry → CompositionRegistry
-withViews v r = record { session = r .session; «session_epoch» = r .«session_epoch»; limits = r .limits; «first_generation» = r .«first_generation»; revision = r .revision; windows = r .windows; views = v; surfaces = r .surfaces; shortcuts = r .shortcuts; traces = r .traces }
+withViews v r =
+    record {
+      session = r .session;
+      «session_epoch» = r .«session_epoch»;
+      limits = r .limits;
+      «first_generation» = r .«first_generation»;
+      revision = r .revision;
+      windows = r .windows;
+      views = v;
+      surfaces = r .surfaces;
+      shortcuts = r .shortcuts;
+      traces = r .traces;
+    }
 
 abbrev pub withSurfaces : SurfaceTable → CompositionRegistry → CompositionRegistry
-withSurfaces s r = record { session = r .session; «session_epoch» = r .«session_epoch»; limits = r .limits; «first_generation» = r .«first_generation»; revision = r .revision; windows = r .windows; views = r .views; surfaces = s; shortcuts = r .shortcuts; traces = r .traces }
+withSurfaces s r =
+    record {
+      session = r .session;
+      «session_epoch» = r .«session_epoch»;
+      limits = r .limits;
+      «first_generation» = r .«first_generation»;
+      revision = r .revision;
+      windows = r .windows;
+      views = r .views;
+      surfaces = s;
+      shortcuts = r .shortcuts;
+      traces = r .traces;
+    }
 
 abbrev pub withShortcuts : Shortcuts → CompositionRegistry → CompositionRegistry
-withShortcuts k r = record { session = r .session; «session_epoch» = r .«session_epoch»; limits = r .limits; «first_generation» = r .«first_generation»; revision = r .revision; windows = r .windows; views = r .views; surfaces = r .surfaces; shortcuts = k; traces = r .traces }
+withShortcuts k r =
+    record {
+      session = r .session;
+      «session_epoch» = r .«session_epoch»;
+      limits = r .limits;
+      «first_generation» = r .«first_generation»;
+      revision = r .revision;
+      windows = r .windows;
+      views = r .views;
+      surfaces = r .surfaces;
+      shortcuts = k;
+      traces = r .traces;
+    }
 
 abbrev pub withTraces : Traces → CompositionRegistry → CompositionRegistry
-withTraces t r = record { session = r .session; «session_epoch» = r .«session_epoch»; limits = r .limits; «first_generation» = r .«first_generation»; revision = r .revision; windows = r .windows; views = r .views; surfaces = r .surfaces; shortcuts = r .shortcuts; traces = t }
+withTraces t r =
+    record {
+      session = r .session;
+      «session_epoch» = r .«session_epoch»;
+      limits = r .limits;
+      «first_generation» = r .«first_generation»;
+      revision = r .revision;
+      windows = r .windows;
+      views = r .views;
+      surfaces = r .surfaces;
+      shortcuts = r .shortcuts;
+      traces = t;
+    }
 
--- document 01: 5/6
+-- RULES.md, Slots: 5/6
 abbrev pub windowRefusal : Arena → GenerationalHandle → Outcome
 windowRefusal a h = statusRefusal (lookupOf a h) InvalidWindow StaleWindow
 
--- document 01: 20, the expected revision is not the registry's
+-- RULES.md, Revisions: 20, the expected revision is not the registry's
 abbrev pub conflictRefusal : ℕ → ℕ → Outcome
 conflictRefusal revision expected = refusalIf (not (eqb revision expected)) RevisionConflict
 
@@ -48,7 +120,7 @@ conflictRefusal revision expected = refusalIf (not (eqb revision expected)) Revi
 abbrev pub answered : Outcome → CompositionRegistry → Changed
 answered o r = record { outcome = o; registry = r }
 
--- the revision rises by 1 a change; document 01: 21 comes after the change
+-- the revision rises by 1 a change; RULES.md, Revisions: 21 comes after the change
 unfoldable pub advanced : CompositionRegistry → Changed
 advanced r =
     cond (eqb (r .revision) maxU64)

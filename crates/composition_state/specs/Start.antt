@@ -1,4 +1,4 @@
--- Document 01, Start: 2 (invalid session or epoch 0), 1 (a limit is 0), 41; and the registry that it makes.
+-- RULES.md, Start: 2 (invalid session or epoch 0), 1 (a limit is 0), 41; and the registry that it makes.
 use Prim.Native.Nat.{ℕ}
 use mathlib.Core.Bool.{Bool, cond, not, _||_}
 use mathlib.Core.List.{[]}
@@ -22,15 +22,22 @@ use Rattle.records.specs.Traces.{traces}
 use Rattle.composition_state.specs.Registry.{answered}
 
 abbrev pub anyZero : CompositionLimits → Bool
-anyZero l = eqb (l .«max_windows») 0 || (eqb (l .«max_views») 0 || (eqb (l .«max_surfaces») 0 || (eqb (l .«max_surfaces_per_view») 0 || eqb (l .«max_trace_entries») 0)))
+anyZero l =
+    eqb (l .«max_windows») 0
+    || (eqb (l .«max_views») 0
+    || (eqb (l .«max_surfaces») 0 || (eqb (l .«max_surfaces_per_view») 0 || eqb (l .«max_trace_entries») 0)))
 
 -- the Rust numbers slots by a u32, and refuses larger limits of windows, views and panels as it does 0
 abbrev pub anyOverU32 : CompositionLimits → Bool
-anyOverU32 l = ltb 4294967295 (l .«max_windows») || (ltb 4294967295 (l .«max_views») || ltb 4294967295 (l .«max_surfaces»))
+anyOverU32 l =
+    ltb 4294967295 (l .«max_windows») || (ltb 4294967295 (l .«max_views») || ltb 4294967295 (l .«max_surfaces»))
 
--- document 01, Port limits: windows 8, views 16, panels 64, 16 panels a view, 32 traces; above these is 41
+-- RULES.md, Port limits: windows 8, views 16, panels 64, 16 panels a view, 32 traces; above these is 41
 abbrev pub anyOverPort : CompositionLimits → Bool
-anyOverPort l = ltb 8 (l .«max_windows») || (ltb 16 (l .«max_views») || (ltb 64 (l .«max_surfaces») || (ltb 16 (l .«max_surfaces_per_view») || ltb 32 (l .«max_trace_entries»))))
+anyOverPort l =
+    ltb 8 (l .«max_windows»)
+    || (ltb 16 (l .«max_views»)
+    || (ltb 64 (l .«max_surfaces») || (ltb 16 (l .«max_surfaces_per_view») || ltb 32 (l .«max_trace_entries»))))
 
 abbrev pub isUnowned : GenerationalHandle → ℕ → Bool
 isUnowned session epoch = not (isValid session) || eqb epoch 0
@@ -65,7 +72,13 @@ freshRegistry session epoch limits revision generation =
 abbrev pub unusableRegistry : CompositionRegistry
 unusableRegistry =
     freshRegistry (handleOf 0 0) 0
-    (record { «max_windows» = 0; «max_views» = 0; «max_surfaces» = 0; «max_surfaces_per_view» = 0; «max_trace_entries» = 0 }) 0 0
+    (record {
+      «max_windows» = 0;
+      «max_views» = 0;
+      «max_surfaces» = 0;
+      «max_surfaces_per_view» = 0;
+      «max_trace_entries» = 0;
+    }) 0 0
 
 abbrev pub started : GenerationalHandle → ℕ → CompositionLimits → ℕ → ℕ → Changed
 started session epoch limits revision generation =

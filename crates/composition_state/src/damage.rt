@@ -128,7 +128,8 @@ fn is_slot_sound(
     v: ViewRecord,
 ) -> bool
     requires { ⌜ i < 64 ⌝ }
-    ensures { λ r. ⌜ r ≡ cond (slot .filled) (viewSound windows surfaces limit (handleOf i (slot .generation)) v) true ⌝ }
+    ensures { λ r. ⌜ r ≡ cond (slot .filled) (viewSound windows surfaces limit (handleOf i (slot .generation)) v)
+        true ⌝ }
 {
     if slot.filled {
         let view = GenerationalHandle {
@@ -159,6 +160,7 @@ fn are_views_sound(windows: Arena, surfaces: SurfaceTable, limit: u64, views: Vi
 }
 
 impl CompositionRegistry {
+    // Whether a registry passes the damage test; one that does not is refused 42 by every call.
     pub fn is_sound(self) -> bool
         ensures { λ r. ⌜ r ≡ isSound self ⌝ }
     {

@@ -193,6 +193,7 @@ impl CompositionRegistry {
         }
     }
 
+    // A registry with nothing in it, at revision 0.
     pub fn new(
         session: GenerationalHandle,
         session_epoch: u64,

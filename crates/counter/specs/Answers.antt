@@ -51,18 +51,40 @@ nothingRead = record { shown = shown.Nothing; hits = packed hitTable [] }
 
 -- of a report, the part that an arbitration answers, and the part that a router release answers
 unfoldable pub arbitrationAlone : ArbitrationResult → PlatformInputRoutingReport
-arbitrationAlone x = record { kind = kind.Nothing; arbitration = x; «synthesized_releases» = packed releases []; «view_release» = state.None; «composition_revision» = 0 }
+arbitrationAlone x =
+    record {
+      kind = kind.Nothing;
+      arbitration = x;
+      «synthesized_releases» = packed releases [];
+      «view_release» = state.None;
+      «composition_revision» = 0;
+    }
 
 unfoldable pub releasesAlone : Releases → PlatformInputRoutingReport
-releasesAlone l = record { kind = kind.Nothing; arbitration = noResult; «synthesized_releases» = l; «view_release» = state.None; «composition_revision» = 0 }
+releasesAlone l =
+    record {
+      kind = kind.Nothing;
+      arbitration = noResult;
+      «synthesized_releases» = l;
+      «view_release» = state.None;
+      «composition_revision» = 0;
+    }
 
 -- the answer of a call on the registry that lists nothing
 abbrev pub registryAnswer : Outcome → OptionalHandle → OptionalMetrics → OptionalInputState → Answer
-registryAnswer o h m s = record { outcome = fromComposition o; made = record { handle = h; metrics = m; «input_state» = s }; report = noReport; listed = nothingListed; read = nothingRead }
+registryAnswer o h m s =
+    record {
+      outcome = fromComposition o;
+      made = record { handle = h; metrics = m; «input_state» = s };
+      report = noReport;
+      listed = nothingListed;
+      read = nothingRead;
+    }
 
 -- of a release of a device's captures, a panel's close, a shutdown
 abbrev pub listingAnswer : Outcome → Listed → Answer
-listingAnswer o l = record { outcome = fromComposition o; made = nothingMade; report = noReport; listed = l; read = nothingRead }
+listingAnswer o l =
+    record { outcome = fromComposition o; made = nothingMade; report = noReport; listed = l; read = nothingRead }
 
 -- of an arbitration, a routed event, a router release
 abbrev pub reportAnswer : RouterOutcome → PlatformInputRoutingReport → Answer
@@ -70,4 +92,11 @@ reportAnswer o x = record { outcome = o; made = nothingMade; report = x; listed 
 
 -- of a call that alters nothing
 abbrev pub readAnswer : Outcome → Shown → HitNumbers → Answer
-readAnswer o s h = record { outcome = fromComposition o; made = nothingMade; report = noReport; listed = nothingListed; read = record { shown = s; hits = h } }
+readAnswer o s h =
+    record {
+      outcome = fromComposition o;
+      made = nothingMade;
+      report = noReport;
+      listed = nothingListed;
+      read = record { shown = s; hits = h };
+    }

@@ -1,4 +1,5 @@
-// What a call answers. An enum holds no array, so that one struct has the answers of every call; what a call does not answer is blank.
+// What a call answers. An enum holds no array, so that one struct has the answers of every call; what a call does not
+// answer is blank.
 ghost use mathlib.Core.Path.{_≡_};
 ghost use Rattle.counter.specs.Answers.{nothingMade, nothingListed, capturesListed, closeListed, shutdownListed, nothingRead, arbitrationAlone, releasesAlone, registryAnswer, listingAnswer, reportAnswer, readAnswer};
 use composition_arbitration::arbitrate::ArbitrationResult;

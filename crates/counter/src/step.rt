@@ -182,7 +182,9 @@ fn input_call(counter: Counter, call: InputCall) -> Stepped
 }
 
 fn device_call(counter: Counter, given: DeviceArguments) -> Stepped
-    ensures { λ r. ⌜ r ≡ fromCaptures (releaseDevicePointerCaptures (counter .registry) (given .device) (given .«device_generation»)) (counter .router) ⌝ }
+    ensures { λ r. ⌜ r ≡ fromCaptures
+        (releaseDevicePointerCaptures (counter .registry) (given .device) (given .«device_generation»))
+        (counter .router) ⌝ }
 {
     from_captures(
         release_device_pointer_captures(counter.registry, given.device, given.device_generation),
@@ -200,7 +202,8 @@ fn shortcut_call(counter: Counter, call: ShortcutCall, registrations: Registrati
 }
 
 fn arbitrate_call(counter: Counter, given: ArbitrateArguments, hits: Hits) -> Stepped
-    ensures { λ r. ⌜ r ≡ fromArbitrated (arbitrated (counter .registry) (given .view) (given .event) hits) (counter .router) ⌝ }
+    ensures { λ r. ⌜ r ≡ fromArbitrated (arbitrated (counter .registry) (given .view) (given .event) hits)
+        (counter .router) ⌝ }
 {
     let event = given.event;
     from_arbitrated(

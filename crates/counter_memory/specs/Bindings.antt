@@ -14,7 +14,8 @@ use Rattle.counter_memory.specs.declared.bindings.BindingsMemory.{Bindin
 -- the key of a kind's number; past the last kind it is the first, a pointer
 abbrev pub keyOf : MapKey → BindingKey
 keyOf k =
-    cond (eqb (k .kind) 1) (Key (record { device = record { value = k .device; generation = k .generation }; «physical_key» = k .code }))
+    cond (eqb (k .kind) 1) (Key
+    (record { device = record { value = k .device; generation = k .generation }; «physical_key» = k .code }))
     (cond (eqb (k .kind) 2) (Gamepad (record { value = k .device; generation = k .generation }))
     (Pointer (record { device = k .device; «device_generation» = k .generation; contact = k .code })))
 

@@ -14,6 +14,9 @@ pub record MemoryClaims : Type 0 where
   pub read-back : (c : Counter) → counterOf (memoryOf c) ≡ c
   -- so different counters have different memory
   pub one-counter : (a b : Counter) → memoryOf a ≡ memoryOf b → a ≡ b
-  -- memory with a limit of 0, as memory of zeros has, is read as a registry and a router that the damage tests reject (42)
-  pub registry-not-started : (m : CounterMemory) → m .registry .limits .«max_windows» ≡ 0 → damageRefusal (counterOf m .registry) ≡ Refused Damaged
-  pub router-not-started : (m : CounterMemory) → m .router .«max_active_bindings» ≡ 0 → isRouterSound (counterOf m .router) ≡ false
+  -- memory with a limit of 0, as memory of zeros has, is read as a registry and a router that the damage tests reject
+  -- (42)
+  pub registry-not-started : (m : CounterMemory) → m .registry .limits .«max_windows» ≡ 0
+      → damageRefusal (counterOf m .registry) ≡ Refused Damaged
+  pub router-not-started : (m : CounterMemory) → m .router .«max_active_bindings» ≡ 0
+      → isRouterSound (counterOf m .router) ≡ false

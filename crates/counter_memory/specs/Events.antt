@@ -16,7 +16,8 @@ noPointer = record { device = 0; «device_generation» = 0; contact = 0 }
 
 -- a kind's number, with a pointer, a target and a class mask
 abbrev pub eventWith : ℕ → CompositionPointerId → OptionalHandle → ℕ → ArbitrationEventMemory
-eventWith kind pointer target mask = record { pointer = pointer; «class_mask» = mask; target = optionalHandleMemory target; kind = kind }
+eventWith kind pointer target mask =
+    record { pointer = pointer; «class_mask» = mask; target = optionalHandleMemory target; kind = kind }
 
 -- what a kind has not is 0
 abbrev pub eventMemory : ArbitrationEvent → ArbitrationEventMemory

@@ -1,4 +1,5 @@
--- Document 01: the host's router is one object, altered in place. This is its memory, beside that of the registry, and the counter that any memory is read as.
+-- RULES.md, Forms: the host's router is one object, altered in place. This is its memory, beside that of the registry,
+-- and the counter that any memory is read as.
 use Rattle.counter.specs.declared.step.Counter.{Counter}
 use Rattle.counter_memory.specs.declared.memory.CounterMemory.{CounterMemory}
 use Rattle.counter_memory.specs.Registry.{registryMemory, registryOf}

@@ -13,7 +13,10 @@ shortcutMemory s = let r = s .registration in
 
 abbrev pub shortcutOf : SlotShortcutMemory → SlotShortcut
 shortcutOf m =
-    record { slot = m .slot; registration = record { «class_mask» = m .«class_mask»; scope = scopeOf (m .scope); priority = m .priority } }
+    record {
+      slot = m .slot;
+      registration = record { «class_mask» = m .«class_mask»; scope = scopeOf (m .scope); priority = m .priority };
+    }
 
 -- the table: every place, also past the count, and the count as it is
 abbrev pub shortcutsMemory : Shortcuts → ShortcutsMemory

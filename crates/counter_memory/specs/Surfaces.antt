@@ -31,11 +31,27 @@ geometryOf m = record {
 -- a record's descriptor, with kind and policy as numbers and the geometry as memory
 abbrev pub surfaceMemory : SurfaceRecord → SurfaceRecordMemory
 surfaceMemory s = let d = s .descriptor in
-    record { view = d .view; kind = surfaceKindNumber (d .kind); «z_order» = d .«z_order»; input = policyNumber (d .input); «accepts_text» = d .«accepts_text»; geometry = geometryMemory (d .geometry) }
+    record {
+      view = d .view;
+      kind = surfaceKindNumber (d .kind);
+      «z_order» = d .«z_order»;
+      input = policyNumber (d .input);
+      «accepts_text» = d .«accepts_text»;
+      geometry = geometryMemory (d .geometry);
+    }
 
 abbrev pub surfaceOf : SurfaceRecordMemory → SurfaceRecord
 surfaceOf m =
-    record { descriptor = record { view = m .view; kind = surfaceKindOf (m .kind); «z_order» = m .«z_order»; input = policyOf (m .input); «accepts_text» = m .«accepts_text»; geometry = geometryOf (m .geometry) } }
+    record {
+      descriptor = record {
+        view = m .view;
+        kind = surfaceKindOf (m .kind);
+        «z_order» = m .«z_order»;
+        input = policyOf (m .input);
+        «accepts_text» = m .«accepts_text»;
+        geometry = geometryOf (m .geometry);
+      };
+    }
 
 -- the table: the slots as they are, and each record
 abbrev pub surfacesMemory : SurfaceTable → SurfaceTableMemory

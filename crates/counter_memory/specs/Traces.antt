@@ -9,10 +9,26 @@ use Rattle.counter_memory.specs.Optionals.{optionalHandleMemory, optiona
 
 -- a trace, with the event and the consumer as memory
 abbrev pub traceMemory : CompositionTrace → CompositionTraceMemory
-traceMemory t = record { revision = t .revision; view = t .view; event = eventMemory (t .event); hits = t .hits; deliveries = t .deliveries; «consumed_by» = optionalHandleMemory (t .«consumed_by») }
+traceMemory t =
+    record {
+      revision = t .revision;
+      view = t .view;
+      event = eventMemory (t .event);
+      hits = t .hits;
+      deliveries = t .deliveries;
+      «consumed_by» = optionalHandleMemory (t .«consumed_by»);
+    }
 
 abbrev pub traceOf : CompositionTraceMemory → CompositionTrace
-traceOf m = record { revision = m .revision; view = m .view; event = eventOf (m .event); hits = m .hits; deliveries = m .deliveries; «consumed_by» = optionalHandleOf (m .«consumed_by») }
+traceOf m =
+    record {
+      revision = m .revision;
+      view = m .view;
+      event = eventOf (m .event);
+      hits = m .hits;
+      deliveries = m .deliveries;
+      «consumed_by» = optionalHandleOf (m .«consumed_by»);
+    }
 
 -- the table: every place, also past the count, and the count as it is
 abbrev pub tracesMemory : Traces → TracesMemory

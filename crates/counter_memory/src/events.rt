@@ -1,4 +1,5 @@
-// The event of a trace: the number of its kind, in the Rust's declared order, and what a kind can have. What a kind has not is 0 and not read.
+// The event of a trace: the number of its kind, in the Rust's declared order, and what a kind can have. What a kind has
+// not is 0 and not read.
 ghost use mathlib.Core.Path.{_≡_};
 ghost use Rattle.counter_memory.specs.Events.{eventWith, eventMemory, eventFrom, eventOf, noPointer};
 use crate::optionals::OptionalHandleMemory;

@@ -1,4 +1,5 @@
-// The counter as memory of a host: every enum of its state is a number, so that an exported function can take a reference to it.
+// The counter as memory of a host: every enum of its state is a number, so that an exported function can take a
+// reference to it.
 // An array is converted entry by entry; it starts filled with what its first entry becomes, so that no blank is needed.
 pub mod bindings;
 pub mod choices;

@@ -1,4 +1,5 @@
-// Optional handles and rectangles: a flag and the value, which is all zeros where there is none. Beside a false flag the value is not read.
+// Optional handles and rectangles: a flag and the value, which is all zeros where there is none. Beside a false flag
+// the value is not read.
 ghost use mathlib.Core.Path.{_≡_};
 ghost use Rattle.counter_memory.specs.Optionals.{optionalHandleMemory, optionalHandleOf, optionalRectMemory, optionalRectOf};
 use geometry::rect::OptionalRect;

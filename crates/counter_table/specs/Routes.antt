@@ -1,4 +1,4 @@
--- Document 01, Counter table: the rows of pressure, tilt and selection, of what `route` answers to the event.
+-- RULES.md, Counter table: the rows of pressure, tilt and selection, of what `route` answers to the event.
 use Prim.Native.Nat.{ℕ}
 use mathlib.Core.Path.{_≡_}
 use mathlib.Core.Bool.{true}
@@ -17,7 +17,7 @@ use Rattle.input_router.specs.Damage.{isRouterSound}
 use Rattle.input_route.specs.Checks.{roomRefusal, orderRefusal}
 use Rattle.input_route.specs.Route.{recordedEvent, routedPayload, routed}
 
--- document 01's number of an event's answer
+-- REFUSALS.md's number of an event's answer
 abbrev pub routeNumber : CompositionRegistry → PlatformInputRouter → PlatformInputEvent → ℕ
 routeNumber r t e = routerNumberOf (routed r t e .outcome)
 

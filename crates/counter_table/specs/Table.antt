@@ -1,4 +1,4 @@
--- Document 01, Counter table: its nine lines as one statement about the definitions that the contracts cite.
+-- RULES.md, Counter table: its nine lines as one statement about the definitions that the contracts cite.
 use mathlib.Core.Path.{_≡_}
 use mathlib.Core.Bool.{true, false}
 use mathlib.Core.List.{[], _∷_}
@@ -50,7 +50,7 @@ before r a = viewAt (r .views) (ownView r a)
 abbrev pub after : CompositionRegistry → GenerationalHandle → ViewRecord
 after r a = viewAt (closeSurface r a .registry .views) (ownView r a)
 
--- Document 01, Counter table: each line in its own words, then as a statement
+-- RULES.md, Counter table: each line in its own words, then as a statement
 pub record CounterTable : Type 0 where
   -- "A rectangle from -500 that is 1,000 wide holds -500 and 499, not -501 or 500."
   pub rectangle : (contains fromMinus500 (negℤ (pos 500)) (pos 0) ≡ true)

@@ -1,4 +1,4 @@
-// Document 01's counter table, proved as one statement.
+// RULES.md, Counter table, proved as one statement.
 ghost use Rattle.counter_table.specs.Table.{CounterTable, CounterExamples};
 
 // All nine lines of the table, of the definitions that the contracts cite.

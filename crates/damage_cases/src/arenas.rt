@@ -1,4 +1,5 @@
-// Counts, generations, live counts and free lists of the three slot tables; limits, first generation, registrations and traces.
+// Counts, generations, live counts and free lists of the three slot tables; limits, first generation, registrations and
+// traces.
 use composition_state::registry::CompositionLimits;
 use composition_state::registry::CompositionRegistry;
 use handles::arena::Arena;

@@ -1,5 +1,5 @@
-// Hands in registries and routers that are damaged in each way of document 01's list, and odd ones that are not on it, and writes each
-// answer.
+// Hands in registries and routers that are damaged in each way of the list in RULES.md, Damage, and odd ones that are
+// not on it, and writes each answer.
 mod arenas;
 mod odd;
 mod reads;
@@ -60,7 +60,8 @@ fn attached(registry: CompositionRegistry, view: u32, z_order: i32) -> Compositi
     answered.registry
 }
 
-// Window 0 is live and 1 closed; views 0 and 2 are live and 1 closed; panels 0 and 1 stand in view 0, panel 2 in view 2; panel 1 has two captures.
+// Window 0 is live and 1 closed; views 0 and 2 are live and 1 closed; panels 0 and 1 stand in view 0, panel 2 in view
+// 2; panel 1 has two captures.
 fn base() -> CompositionRegistry {
     let limits = CompositionLimits {
         max_windows: 4,

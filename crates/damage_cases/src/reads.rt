@@ -1,4 +1,5 @@
-// Reads of damaged states: a call that reads is 42 where the state that it reads is damaged, and a function that reads a
+// Reads of damaged states: a call that reads is 42 where the state that it reads is damaged, and a function that reads
+// a
 // plain field answers the stored field.
 use calls::arguments::InversePointArguments;
 use calls::call::ReadCall;

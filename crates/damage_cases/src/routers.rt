@@ -1,5 +1,5 @@
-// Routers damaged in each way of document 01's list, and odd ones that are not on it. Each is handed to route, release_surface and
-// release_all, and the line has the three answers.
+// Routers damaged in each way of the list in RULES.md, Damage, and odd ones that are not on it. Each is handed to
+// route, release_surface and release_all, and the line has the three answers.
 use composition_state::registry::CompositionRegistry;
 use handles::GenerationalHandle;
 use input_events::error::RouterOutcome;

@@ -1,4 +1,4 @@
--- Document 01, Program `desk`: the counter at its start, and the window, the view and the three panels that are set up.
+-- RULES.md, Desk: the counter at its start, and the window, the view and the three panels that are set up.
 use Prim.Native.Nat.{ℕ}
 use mathlib.Core.Bool.{false}
 use mathlib.Core.List.{[]}
@@ -34,13 +34,21 @@ use Rattle.desk.specs.declared.opening.Viewed.{Viewed}
 unfoldable pub noLists : Lists
 noLists = record { hits = packed hits []; registrations = packed registrations [] }
 
--- document 01, Port limits
+-- RULES.md, Port limits
 abbrev pub portLimits : CompositionLimits
-portLimits = record { «max_windows» = 8; «max_views» = 16; «max_surfaces» = 64; «max_surfaces_per_view» = 16; «max_trace_entries» = 32 }
+portLimits =
+    record {
+      «max_windows» = 8;
+      «max_views» = 16;
+      «max_surfaces» = 64;
+      «max_surfaces_per_view» = 16;
+      «max_trace_entries» = 32;
+    }
 
 -- session 0.1 of epoch 1, at the port's limits, and a router of 128 presses
 unfoldable pub startCounter : Counter
-startCounter = record { registry = started (handleOf 0 1) 1 portLimits 0 1 .registry; router = routerStarted 128 .router }
+startCounter =
+    record { registry = started (handleOf 0 1) 1 portLimits 0 1 .registry; router = routerStarted 128 .router }
 
 -- a refused call has made nothing
 abbrev pub handleFrom : OptionalHandle → GenerationalHandle
@@ -56,7 +64,15 @@ createdBy c call =
 -- a panel with no bounds, the identity matrix and hit testing on
 unfoldable pub attached : Counter → GenerationalHandle → ℤ → SurfaceInputPolicy → Created
 attached c view z input =
-    createdBy c (AttachSurface (record { view = view; kind = Ui; «z_order» = z; input = input; «accepts_text» = false; geometry = defaultGeometry }))
+    createdBy c (AttachSurface
+    (record {
+      view = view;
+      kind = Ui;
+      «z_order» = z;
+      input = input;
+      «accepts_text» = false;
+      geometry = defaultGeometry;
+    }))
 
 -- the revision of the metrics that a read shows
 unfoldable pub revisionShown : Shown → ℕ
@@ -90,7 +106,13 @@ panelsOpened v =
     let holdBar = attached (seatMap .counter) (v .view) (pos 1) Observe in
     let paySheet = attached (holdBar .counter) (v .view) (pos 2) Exclusive in
     record {
-      places = record { window = v .window; view = v .view; «metrics_revision» = metricsRevision (paySheet .counter) (v .view); «pay_sheet» = paySheet .handle };
+      places =
+          record {
+            window = v .window;
+            view = v .view;
+            «metrics_revision» = metricsRevision (paySheet .counter) (v .view);
+            «pay_sheet» = paySheet .handle;
+          };
       counter = paySheet .counter;
     }
 

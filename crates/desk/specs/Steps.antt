@@ -1,4 +1,4 @@
--- Document 01, Program `desk`: the eight steps. "Device 7.1, contact 0."
+-- RULES.md, Desk: the eight steps. "Device 7.1, contact 0."
 use Prim.Native.Nat.{ℕ}
 use mathlib.Core.Bool.{false, cond}
 use lib.Dec.{eqb}
@@ -18,7 +18,8 @@ use Rattle.calls.specs.declared.call.RouterCall.the-variants.{Route, ReleaseSur
 use Rattle.desk.specs.declared.opening.Places.{Places}
 
 abbrev pub noModifiers : InputModifiers
-noModifiers = record { shift = false; control = false; alt = false; meta = false; «caps_lock» = false; «num_lock» = false }
+noModifiers =
+    record { shift = false; control = false; alt = false; meta = false; «caps_lock» = false; «num_lock» = false }
 
 abbrev pub headerOf : Places → ℕ → ℕ → PlatformInputHeader
 headerOf p sequence time = record {

@@ -1,4 +1,4 @@
--- Document 01, Program `desk`: the table that is written.
+-- RULES.md, Desk: the table that is written.
 use Prim.Native.Nat.{ℕ, _+_}
 use mathlib.Core.List.{List, [], _∷_, _++_}
 use Rattle.lists.specs.Below.{iterBelow}

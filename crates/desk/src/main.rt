@@ -1,5 +1,6 @@
-// Document 01's session at the desk. Three panels stand in one view: the seat map, the hold bar over it, which only observes,
-// and the pay sheet over both, which takes every event. One pointer presses, the pay sheet closes, and the pointer's device goes.
+// The session of RULES.md, Desk. Three panels stand in one view: the seat map, the hold bar over it, which only
+// observes, and the pay sheet over both, which takes every event. One pointer presses, the pay sheet closes, and the
+// pointer's device goes.
 // The program reads nothing and writes a line for each of the eight steps.
 mod opening;
 mod steps;

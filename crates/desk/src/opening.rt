@@ -1,4 +1,5 @@
-// The desk as it opens: one window, one view and the three panels, each made by a call and named by the handle that the call answers.
+// The desk as it opens: one window, one view and the three panels, each made by a call and named by the handle that the
+// call answers.
 ghost use mathlib.Core.Path.{_≡_};
 ghost use Rattle.desk.specs.Opening.{noLists, startCounter, handleFrom, createdBy, attached, revisionShown, metricsRevision, viewOpened, panelsOpened, opened};
 use calls::call::Call;
@@ -23,7 +24,8 @@ use records::surface::SurfaceInputPolicy;
 use records::surface::SurfaceKind;
 use records::trace::Hits;
 
-// What the steps name: the window and the view of an event, the revision of the view's metrics, and the panel that is closed.
+// What the steps name: the window and the view of an event, the revision of the view's metrics, and the panel that is
+// closed.
 pub struct Places {
     pub window: GenerationalHandle,
     pub view: GenerationalHandle,

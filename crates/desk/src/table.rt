@@ -27,7 +27,8 @@ fn put_column_line(out: &mut [u8], at: usize) -> usize
 
 // The line of a step that is taken.
 fn put_line(out: &mut [u8], at: usize, number: u64, done: Stepped) -> usize
-    ensures { λ r. ⌜ _≡_ {A = List ℕ × ℕ} (now (out .exit), r) (putAll (linePieces number done) (now (out .entry), at)) ⌝ }
+    ensures { λ r. ⌜ _≡_ {A = List ℕ × ℕ} (now (out .exit), r)
+        (putAll (linePieces number done) (now (out .entry), at)) ⌝ }
 {
     let end = put_columns(out, at, number, done.counter.registry.revision, done.answer);
     put_byte(out, end, b'\n')

@@ -1,4 +1,4 @@
--- What holds of the definitions of geometry: two theorems on determinants, and the rows of document 01's counter table.
+-- What holds of the definitions of geometry: two theorems on determinants, and the rows of RULES.md, Counter table.
 use mathlib.Core.Path.{_≡_}
 use mathlib.Core.Bool.{true, false}
 use lib.IntN.{ℤ, pos, negℤ}
@@ -25,11 +25,13 @@ pub record I32Entries (t : SurfaceTransform) : Type 0 where
 -- Hit test, "The determinant": that of a panel's matrix in `f64`
 abbrev pub floatDeterminant : SurfaceTransform → Float
 floatDeterminant t =
-    determinant (matrixEntry (t .«m11_q16»)) (matrixEntry (t .«m12_q16»)) (matrixEntry (t .«m21_q16»)) (matrixEntry (t .«m22_q16»))
+    determinant (matrixEntry (t .«m11_q16»)) (matrixEntry (t .«m12_q16»)) (matrixEntry (t .«m21_q16»))
+    (matrixEntry (t .«m22_q16»))
 
 -- Counter table, "A rectangle from -500 that is 1,000 wide", and 1,000 high
 abbrev pub fromMinus500 : SurfaceRect
-fromMinus500 = record { «x_milli» = negℤ (pos 500); «y_milli» = negℤ (pos 500); «width_milli» = 1000; «height_milli» = 1000 }
+fromMinus500 =
+    record { «x_milli» = negℤ (pos 500); «y_milli» = negℤ (pos 500); «width_milli» = 1000; «height_milli» = 1000 }
 
 -- Counter table: a matrix in 65,536ths, with a translation
 abbrev pub matrix : ℤ → ℤ → ℤ → ℤ → ℤ → ℤ → SurfaceTransform

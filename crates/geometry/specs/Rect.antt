@@ -1,4 +1,4 @@
--- Rectangles over the integers, as document 01's Hit test and counter table have them.
+-- Rectangles over the integers, as RULES.md, Hit test and Counter table, have them.
 use Prim.Native.Nat.{ℕ}
 use mathlib.Core.Bool.{Bool, _&&_, _||_}
 use lib.IntN.{ℤ, pos, _+ℤ_}

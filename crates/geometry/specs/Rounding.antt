@@ -1,4 +1,5 @@
--- A float to the nearest `i32`, as document 01's Hit test rounds a quotient. A float m * 2 ^ e is the fraction m * up e / down e.
+-- A float to the nearest `i32`, as RULES.md, Hit test, rounds a quotient. A float m * 2 ^ e is the fraction m * up e /
+-- down e.
 use Prim.Native.Nat.{ℕ, _+_, _*_, _/_}
 use mathlib.Core.Bool.{Bool, cond}
 use lib.IntN.{ℤ, pos, negsuc, negℤ}

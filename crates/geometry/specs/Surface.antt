@@ -22,7 +22,8 @@ abbrev pub liesInside : OptionalRect → OptionalRect → LocalPoint → Bool
 liesInside bounds clip (At p) = allows bounds p && allows clip p
 liesInside bounds clip Skipped = false
 
--- Hit test, "A panel with hit testing off is passed over; the local point must lie in bounds and clip": one panel, one point
+-- Hit test, "A panel with hit testing off is passed over; the local point must lie in bounds and clip": one panel, one
+-- point
 unfoldable pub isHit : SurfaceGeometry → ℤ → ℤ → Bool
 isHit g x y = g .«hit_test_enabled» && liesInside (g .bounds) (g .clip) (inversePoint (g .transform) x y)
 
@@ -45,7 +46,7 @@ unfoldable pub isValidGeometry : SurfaceGeometry → Bool
 isValidGeometry g =
     not (hasZeroSide (g .bounds) || hasZeroSide (g .clip) || isZero (integerDeterminant (g .transform)))
 
--- Program `desk`, "no bounds, identity matrix, hit testing on"; and opaque
+-- Desk, "no bounds, identity matrix, hit testing on"; and opaque
 abbrev pub defaultGeometry : SurfaceGeometry
 defaultGeometry = record {
   bounds = None;

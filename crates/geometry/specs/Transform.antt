@@ -1,4 +1,4 @@
--- The inverse of a panel's transform at a point, as document 01's Hit test has it: in `f64`, each step rounded once.
+-- The inverse of a panel's transform at a point, as RULES.md, Hit test, has it: in `f64`, each step rounded once.
 use mathlib.Core.Bool.{Bool, true, false, cond}
 use lib.IntN.{ℤ, pos, negsuc}
 use lib.Ieee as Ieee
@@ -92,7 +92,7 @@ inversePoint t x y =
     (difference x (t .«translate_x_milli»))
     (difference y (t .«translate_y_milli»))
 
--- Program `desk`, "identity matrix": 65,536 both ways, and no translation
+-- Desk, "identity matrix": 65,536 both ways, and no translation
 abbrev pub identity : SurfaceTransform
 identity = record {
   «m11_q16» = pos 65536;

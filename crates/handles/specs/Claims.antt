@@ -1,4 +1,4 @@
--- What holds of every slot table beyond the answers of its calls: what document 01 claims of handles.
+-- What holds of every slot table beyond the answers of its calls: what RULES.md, Slots, says of handles.
 use Prim.Native.Nat.{ℕ, _≤_, _<_}
 use mathlib.Core.Path.{_≡_}
 use mathlib.Core.Bool.{Bool, true, false}
@@ -39,7 +39,8 @@ pub record Issues (a : Arena) (n : Allocation) : Type 0 where
   -- every other handle is live exactly if it was
   pub others : (h : GenerationalHandle) → (h ≡ n .handle → ⊥) → isLive (lookupOf (n .arena) h) ≡ isLive (lookupOf a h)
   -- of a slot that was used before it keeps its whole answer
-  pub used-others : (h : GenerationalHandle) → (h ≡ n .handle → ⊥) → h .index < a .used → lookupOf (n .arena) h ≡ lookupOf a h
+  pub used-others : (h : GenerationalHandle) → (h ≡ n .handle → ⊥) → h .index < a .used → lookupOf (n .arena) h
+      ≡ lookupOf a h
 
 -- a later call that changes the table
 pub data Operation : Type 0 where
@@ -59,20 +60,30 @@ afterAll (o ∷ l) a = afterAll l (after o a)
 pub record ArenaClaims : Type 0 where
   -- a new table is well-formed, and allocations within the limit and releases keep it so
   pub new-proper : (limit : ℕ) → Proper emptyArena limit
-  pub allocate-proper : (a : Arena) (limit first : ℕ) → Proper a limit → MayIssue a limit first → Proper (allocated a first .arena) limit
-  pub release-proper : (a : Arena) (limit : ℕ) (h : GenerationalHandle) → Proper a limit → Proper (released a h .arena) limit
+  pub allocate-proper : (a : Arena) (limit first : ℕ) → Proper a limit → MayIssue a limit first
+      → Proper (allocated a first .arena) limit
+  pub release-proper : (a : Arena) (limit : ℕ) (h : GenerationalHandle) → Proper a limit
+      → Proper (released a h .arena) limit
   -- an allocation within the limit issues a handle
-  pub allocate-issues : (a : Arena) (limit first : ℕ) → Proper a limit → MayIssue a limit first → Issues a (allocated a first)
+  pub allocate-issues : (a : Arena) (limit first : ℕ) → Proper a limit → MayIssue a limit first
+      → Issues a (allocated a first)
   -- a live handle is released, unless its generation is the last
-  pub live-released : (a : Arena) (limit : ℕ) (h : GenerationalHandle) → Proper a limit → lookupOf a h ≡ Live → (h .generation ≡ 4294967295 → ⊥) → released a h .outcome ≡ Released
+  pub live-released : (a : Arena) (limit : ℕ) (h : GenerationalHandle) → Proper a limit → lookupOf a h ≡ Live
+      → (h .generation ≡ 4294967295 → ⊥) → released a h .outcome ≡ Released
   -- after the shutdown's test every live handle is released
-  pub preflight-releases : (a : Arena) (limit : ℕ) (h : GenerationalHandle) → Proper a limit → noneExhausted a ≡ true → lookupOf a h ≡ Live → released a h .outcome ≡ Released
+  pub preflight-releases : (a : Arena) (limit : ℕ) (h : GenerationalHandle) → Proper a limit → noneExhausted a ≡ true
+      → lookupOf a h ≡ Live → released a h .outcome ≡ Released
   -- a released handle is stale, and every handle of another slot keeps its answer
-  pub released-stale : (a : Arena) (h : GenerationalHandle) → released a h .outcome ≡ Released → lookupOf (released a h .arena) h ≡ Stale
-  pub release-others : (a : Arena) (h g : GenerationalHandle) → (g .index ≡ h .index → ⊥) → lookupOf (released a h .arena) g ≡ lookupOf a g
+  pub released-stale : (a : Arena) (h : GenerationalHandle) → released a h .outcome ≡ Released
+      → lookupOf (released a h .arena) h ≡ Stale
+  pub release-others : (a : Arena) (h g : GenerationalHandle) → (g .index ≡ h .index → ⊥)
+      → lookupOf (released a h .arena) g ≡ lookupOf a g
   -- a released handle stays stale whatever follows
-  pub stays-stale : (a : Arena) (h : GenerationalHandle) (l : List Operation) → released a h .outcome ≡ Released → lookupOf (afterAll l (released a h .arena)) h ≡ Stale
+  pub stays-stale : (a : Arena) (h : GenerationalHandle) (l : List Operation) → released a h .outcome ≡ Released
+      → lookupOf (afterAll l (released a h .arena)) h ≡ Stale
   -- the listed handles are the live ones, as many as the live count
-  pub live-listed : (a : Arena) (limit : ℕ) (h : GenerationalHandle) → Proper a limit → lookupOf a h ≡ Live → List·Memᴰ h (liveHandles a)
-  pub listed-live : (a : Arena) (limit : ℕ) (h : GenerationalHandle) → Proper a limit → List·Memᴰ h (liveHandles a) → lookupOf a h ≡ Live
+  pub live-listed : (a : Arena) (limit : ℕ) (h : GenerationalHandle) → Proper a limit → lookupOf a h ≡ Live
+      → List·Memᴰ h (liveHandles a)
+  pub listed-live : (a : Arena) (limit : ℕ) (h : GenerationalHandle) → Proper a limit → List·Memᴰ h (liveHandles a)
+      → lookupOf a h ≡ Live
   pub listed-count : (a : Arena) (limit : ℕ) → Proper a limit → length (liveHandles a) ≡ a .live

@@ -61,16 +61,24 @@ abbrev pub fromFree : Arena → Allocation
 fromFree a =
     let i = lastFreed a in
     let g = slotAt a i .generation in
-    record { handle = handleOf i g; arena = arenaOf (set (a .slots) i (slotOf g true)) (a .used) (a .free) (a .freed - 1) (a .live + 1) }
+    record {
+      handle = handleOf i g;
+      arena = arenaOf (set (a .slots) i (slotOf g true)) (a .used) (a .free) (a .freed - 1) (a .live + 1);
+    }
 
 -- the next slot never used is issued, with the first generation
 abbrev pub fromUnused : Arena → ℕ → Allocation
 fromUnused a first =
-    record { handle = handleOf (a .used) first; arena = arenaOf (set (a .slots) (a .used) (slotOf first true)) (a .used + 1) (a .free) (a .freed) (a .live + 1) }
+    record {
+      handle = handleOf (a .used) first;
+      arena = arenaOf (set (a .slots) (a .used) (slotOf first true)) (a .used + 1) (a .free) (a .freed) (a .live + 1);
+    }
 
 -- the slot freed last, else the next never used; without room no handle, and nothing changes
 unfoldable pub allocated : Arena → ℕ → Allocation
-allocated a first = cond (hasRoom (a .used) (a .freed) (a .live)) (cond (ltb 0 (a .freed)) (fromFree a) (fromUnused a first)) (record { handle = invalidHandle; arena = a })
+allocated a first =
+    cond (hasRoom (a .used) (a .freed) (a .live)) (cond (ltb 0 (a .freed)) (fromFree a) (fromUnused a first))
+    (record { handle = invalidHandle; arena = a })
 
 -- a release that changes nothing
 abbrev pub refused : ReleaseOutcome → Arena → ReleaseAnswer
@@ -78,14 +86,18 @@ refused o a = record { outcome = o; arena = a }
 
 -- the slot is empty, one generation on, and last in the free list
 abbrev pub emptied : Arena → GenerationalHandle → Arena
-emptied a h = arenaOf (set (a .slots) (h .index) (slotOf (h .generation + 1) false)) (a .used) (set (a .free) (a .freed) (h .index)) (a .freed + 1) (a .live - 1)
+emptied a h =
+    arenaOf (set (a .slots) (h .index) (slotOf (h .generation + 1) false)) (a .used)
+    (set (a .free) (a .freed) (h .index)) (a .freed + 1) (a .live - 1)
 
--- a live handle is released, unless its generation is the last; a free list that is full or a live count of 0 is refused
+-- a live handle is released, unless its generation is the last; a free list that is full or a live count of 0 is
+-- refused
 -- too, which is never met: the damage test has counted the live slots and the free list before
 abbrev pub releasedLive : Arena → GenerationalHandle → ReleaseAnswer
 releasedLive a h =
     cond (eqb (h .generation) 4294967295) (refused outcome.GenerationExhausted a)
-    (cond (leb 64 (a .freed) || eqb (a .live) 0) (refused outcome.Invalid a) (record { outcome = outcome.Released; arena = emptied a h }))
+    (cond (leb 64 (a .freed) || eqb (a .live) 0) (refused outcome.Invalid a)
+    (record { outcome = outcome.Released; arena = emptied a h }))
 
 -- what a release does by the status of the handle
 abbrev pub releasedAs : SlotStatus → Arena → GenerationalHandle → ReleaseAnswer

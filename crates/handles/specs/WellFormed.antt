@@ -1,4 +1,4 @@
--- Document 01, 42: what makes a slot table sound. Each part of the rule is a definition of its own.
+-- RULES.md, Damage: what makes a slot table sound. Each part of the rule is a definition of its own.
 use Prim.Native.Nat.{ℕ}
 use mathlib.Core.Bool.{Bool, cond, not, _&&_}
 use mathlib.Core.List.{List}

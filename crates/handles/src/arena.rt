@@ -37,7 +37,8 @@ pub struct Slot {
     pub filled: bool,
 }
 
-// The first `used` slots were issued at some time; the first `freed` places of `free` are the indices of the empty ones.
+// The first `used` slots were issued at some time; the first `freed` places of `free` are the indices of the empty
+// ones.
 #[repr(C)]
 pub struct Arena {
     pub slots: [Slot; SLOTS],
@@ -223,7 +224,8 @@ fn allocate_unused(a: Arena, first_generation: u32) -> Allocation
     }
 }
 
-// Issues the slot freed last, else the next never used, with `first_generation`. Where there is none, the handle is INVALID.
+// Issues the slot freed last, else the next never used, with `first_generation`. Where there is none, the handle is
+// INVALID.
 pub fn allocate(a: Arena, first_generation: u32) -> Allocation
     ensures { λ r. ⌜ r ≡ allocated a «first_generation» ⌝ }
 {

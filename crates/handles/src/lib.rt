@@ -1,4 +1,5 @@
-// Generational handles, and the slot table that issues them. A handle names a slot by its index, and one life of that slot by a generation.
+// Generational handles, and the slot table that issues them. A handle names a slot by its index, and one life of that
+// slot by a generation.
 pub mod arena;
 pub mod well_formed;
 

@@ -117,7 +117,8 @@ fn each_stands_as_due(slots: [Slot; SLOTS], used: usize, free: [u32; SLOTS], fre
     ok
 }
 
-// Whether the counts, the generations and the free list agree with the slots. `limit` is the configured number of slots.
+// Whether the counts, the generations and the free list agree with the slots. `limit` is the configured number of
+// slots.
 pub fn is_well_formed(a: Arena, limit: usize) -> bool
     ensures { λ r. ⌜ r ≡ wellFormed a limit ⌝ }
 {

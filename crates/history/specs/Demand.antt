@@ -21,7 +21,7 @@ use Rattle.book.specs.Notes.{changes}
 use Rattle.book.specs.Owed.{isSamePressOf, isSameRelease, isAmong, noneTwice, owedPresses, owed}
 use Rattle.history.specs.Histories.{Start, fresh, call, toldOf, releasesIn, Entry, after, history, bookAfter}
 
--- an accepted start: any limits, first revision and first generation that document 01 does not refuse
+-- an accepted start: any limits, first revision and first generation that RULES.md, Start, does not refuse
 pub record Accepts (s : Start) : Type 0 where
   pub registry : started (s .session) (s .epoch) (s .limits) (s .revision) (s .generation) .outcome
       ≡ composition.Accepted
@@ -44,7 +44,7 @@ closedBy (Read call) = none
 abbrev pub closedIn : Entry → Option GenerationalHandle
 closedIn e = cond (isRefused (e .told)) none (closedBy (e .asked .call))
 
--- document 01, Book: "Hit tests alter neither state and stand outside", as do all reads
+-- RULES.md, Book: "Hit tests alter neither state and stand outside", as do all reads
 abbrev pub isRead : Call → Bool
 isRead (Panel call) = false
 isRead (Input call) = false
@@ -81,7 +81,7 @@ Anywhere s l P = (before : List Entry) (e : Entry) (later : List Entry) → hist
     → P before e
 
 pub record NothingLost (s : Start) (l : List Asked) : Type 0 where
-  -- the releases of a call are those that the book owes there, in document 01's order
+  -- the releases of a call are those that the book owes there, in release order
   pub listed : Anywhere s l (λ before e. e .listed ≡ owed (e .asked) (e .told) (bookAfter before emptyBook))
   -- each once: no release stands there twice
   pub once : Anywhere s l (λ before e. noneTwice isSameRelease (e .listed) ≡ true)

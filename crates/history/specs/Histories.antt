@@ -18,7 +18,7 @@ use Rattle.counter.specs.declared.step.Counter.{Counter}
 use Rattle.counter.specs.declared.step.Stepped.{Stepped}
 use Rattle.counter.specs.Step.{stepped}
 
--- document 01, Start: session, epoch, limits, first revision, first slot generation, and the router's limit
+-- RULES.md, Start: session, epoch, limits, first revision, first slot generation, and the router's limit
 pub record Start : Type 0 where
   pub session : GenerationalHandle
   pub epoch : ℕ

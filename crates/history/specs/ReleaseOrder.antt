@@ -1,4 +1,4 @@
--- Document 01, Release order, claimed of every sound router, whatever its history: what it lists for a panel, a device
+-- RULES.md, Release order, claimed of every sound router, whatever its history: what it lists for a panel, a device
 -- or a view rises.
 use mathlib.Core.Path.{_≡_}
 use mathlib.Core.Bool.{Bool, true}

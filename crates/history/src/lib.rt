@@ -8,7 +8,7 @@ pub fn demand_3()
     ensures { λ r. ⌜ Demand3 ⌝ }
 {}
 
-// What a router lists for a panel, a device or a view rises in document 01's order, whatever its history.
+// What a router lists for a panel, a device or a view rises in release order (RULES.md), whatever its history.
 pub fn release_order()
     ensures { λ r. ⌜ ReleaseOrder ⌝ }
 {}

@@ -186,7 +186,8 @@ abbrev pub pressedOnce : List Asked → List Asked
 pressedOnce later = openWindow ∷ openView (handleAt 0 1) ∷ attach 1 0 ∷ event 1 5 keyDown ∷ later
 
 pub record OtherExamples : Type 0 where
-  -- "A disconnect forgets its device's sequence, not the shared time.": not 32 for sequence 1 again, and 33 before time 10
+  -- "A disconnect forgets its device's sequence, not the shared time.": not 32 for sequence 1 again, and 33 before time
+  -- 10
   pub disconnect-forgets : numbers (startAt 5 1)
       (pressedOnce (event 1 6 DeviceDisconnected ∷ eventAt 9 1 1 keyDown ∷ event 1 1 keyDown ∷ []))
       ≡ 0 ∷ 0 ∷ 0 ∷ 0 ∷ 0 ∷ 33 ∷ 0 ∷ []

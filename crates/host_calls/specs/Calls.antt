@@ -1,4 +1,5 @@
--- A call on a counter in memory: `step` on the counter that the memory is read as, with the answer written from the front of the lent buffer.
+-- A call on a counter in memory: `step` on the counter that the memory is read as, with the answer written from the
+-- front of the lent buffer.
 use Prim.Native.Nat.{ℕ}
 use mathlib.Core.Bool.{cond}
 use mathlib.Core.List.{List}
@@ -17,7 +18,8 @@ use Rattle.host_calls.specs.Status.{statusOf, refusalOf}
 
 -- what a call comes to, once its answer was placed: the buffer, and how many bytes were written
 abbrev pub calledWith : Message → Stepped → List ℕ × ℕ → List ℕ × Called
-calledWith m s p = (p .0, record { status = record { number = 0; length = p .1 }; memory = memoryOf (s .counter); message = m })
+calledWith m s p =
+    (p .0, record { status = record { number = 0; length = p .1 }; memory = memoryOf (s .counter); message = m })
 
 abbrev pub madeOf : Message → Stepped → List ℕ → List ℕ × Called
 madeOf m s buf = calledWith m s (answerPlaced (callAt (m .call)) (s .answer) (s .counter) buf)
@@ -31,4 +33,5 @@ untouched n memory m buf = (buf, record { status = statusOf n; memory = memory; 
 
 -- a message that is no form, or a short buffer, is refused
 unfoldable pub called : CounterMemory → Message → List ℕ → List ℕ × Called
-called memory m buf = let n = refusalOf (isMessage m) (length buf) in cond (eqb n 0) (made memory m buf) (untouched n memory m buf)
+called memory m buf = let n =
+    refusalOf (isMessage m) (length buf) in cond (eqb n 0) (made memory m buf) (untouched n memory m buf)

@@ -1,4 +1,5 @@
--- A fresh counter in memory: the registry's start and the router's, of which the first refusal counts and leaves the memory as it was.
+-- A fresh counter in memory: the registry's start and the router's, of which the first refusal counts and leaves the
+-- memory as it was.
 use Prim.Native.Nat.{ℕ}
 use mathlib.Core.Bool.{cond}
 use lib.Dec.{eqb}

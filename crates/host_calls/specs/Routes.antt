@@ -22,7 +22,8 @@ isRouteForm l = eqb (getD l 0 0) 23 && isForm l
 
 -- what a route comes to, once its answer was placed: the buffer, and how many bytes were written
 abbrev pub routeCalledWith : RouteMessage → Stepped → List ℕ × ℕ → List ℕ × RouteCalled
-routeCalledWith m s p = (p .0, record { status = record { number = 0; length = p .1 }; memory = memoryOf (s .counter); message = m })
+routeCalledWith m s p =
+    (p .0, record { status = record { number = 0; length = p .1 }; memory = memoryOf (s .counter); message = m })
 
 abbrev pub routeMadeOf : RouteMessage → Stepped → List ℕ → List ℕ × RouteCalled
 routeMadeOf m s buf = routeCalledWith m s (answerPlaced (Router (routerAt (m .call))) (s .answer) (s .counter) buf)
@@ -36,4 +37,6 @@ untouchedRoute n memory m buf = (buf, record { status = statusOf n; memory = mem
 
 -- numbers that are no form of a `route`, or a short buffer, are refused
 unfoldable pub routeCalled : CounterMemory → RouteMessage → List ℕ → List ℕ × RouteCalled
-routeCalled memory m buf = let n = refusalOf (isRouteForm (m .call)) (length buf) in cond (eqb n 0) (routeMade memory m buf) (untouchedRoute n memory m buf)
+routeCalled memory m buf = let n =
+    refusalOf (isRouteForm (m .call)) (length buf) in
+    cond (eqb n 0) (routeMade memory m buf) (untouchedRoute n memory m buf)

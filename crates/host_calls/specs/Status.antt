@@ -1,4 +1,5 @@
--- What a function of the library answers: 0 or the number of why nothing was done, and how many bytes of the lent buffer are the answer.
+-- What a function of the library answers: 0 or the number of why nothing was done, and how many bytes of the lent
+-- buffer are the answer.
 use Prim.Native.Nat.{ℕ}
 use mathlib.Core.Bool.{Bool, cond}
 use mathlib.Core.List.{List}
@@ -10,7 +11,7 @@ use Rattle.host_calls.specs.declared.status.Status.{Status}
 abbrev pub statusOf : ℕ → Status
 statusOf n = record { number = n; length = 0 }
 
--- what is no form, and a buffer that is too short; no refusal of document 01 has these numbers
+-- a malformed message, and a buffer that is too short; no refusal of a call has these numbers
 abbrev pub malformed : ℕ
 malformed = 1000
 

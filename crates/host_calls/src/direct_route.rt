@@ -34,7 +34,8 @@ fn is_route_form(words: [u64; 32]) -> bool
 
 // The event is routed, and the answer written.
 fn make_route(memory: CounterMemory, message: RouteMessage, answer: &mut [u8]) -> RouteCalled
-    ensures { λ r. ⌜ _≡_ {A = List ℕ × RouteCalled} (now (answer .exit), r) (routeMade memory message (now (answer .entry))) ⌝ }
+    ensures { λ r. ⌜ _≡_ {A = List ℕ × RouteCalled} (now (answer .exit), r)
+        (routeMade memory message (now (answer .entry))) ⌝ }
 {
     let words = message.call;
     let call = router_at(words);
@@ -50,7 +51,8 @@ fn make_route(memory: CounterMemory, message: RouteMessage, answer: &mut [u8]) -
 
 // Numbers that are no form of a `route` are answered 1000, a buffer that is too short 1001, and nothing is altered.
 pub fn route(memory: CounterMemory, message: RouteMessage, answer: &mut [u8]) -> RouteCalled
-    ensures { λ r. ⌜ _≡_ {A = List ℕ × RouteCalled} (now (answer .exit), r) (routeCalled memory message (now (answer .entry))) ⌝ }
+    ensures { λ r. ⌜ _≡_ {A = List ℕ × RouteCalled} (now (answer .exit), r)
+        (routeCalled memory message (now (answer .entry))) ⌝ }
 {
     let words = message.call;
     let refusal = refusal_of(is_route_form(words), answer.len());

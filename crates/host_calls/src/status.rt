@@ -1,4 +1,5 @@
-// What a function of the library answers: 0 or the number of why nothing was done, and how many bytes of the lent buffer are the answer.
+// What a function of the library answers: 0 or the number of why nothing was done, and how many bytes of the lent
+// buffer are the answer.
 ghost use mathlib.Core.Path.{_≡_};
 ghost use Rattle.host_calls.specs.Status.{statusOf, refusalOf};
 
@@ -15,7 +16,8 @@ pub fn status_of(number: u64) -> Status
     Status { number, length: 0 }
 }
 
-// Why a message and a buffer of so many bytes are refused, 0 if they are not. The longest answer fits into 36,864 bytes.
+// Why a message and a buffer of so many bytes are refused, 0 if they are not. The longest answer fits into 36,864
+// bytes.
 pub fn refusal_of(is_form: bool, length: usize) -> u64
     ensures { λ r. ⌜ r ≡ refusalOf «is_form» length ⌝ }
 {

@@ -13,8 +13,13 @@ use Rattle.host_message.specs.Registrations.{registrationsOf, registrati
 
 pub record RegistrationClaims : Type 0 where
   -- registrations are read back from their numbers
-  pub back : (r : Registrations) → ((i : ℕ) → i < length (r .items) → SFits w16 (getD (r .items) i (ofMask 0) .priority)) → registrationsOf (registrationsNumbers r) ≡ r
+  pub back : (r : Registrations)
+      → ((i : ℕ) → i < length (r .items) → SFits w16 (getD (r .items) i (ofMask 0) .priority))
+      → registrationsOf (registrationsNumbers r) ≡ r
   -- what is accepted is exactly what the registrations read from it are written as
-  pub forth : (w : RegistrationsNumbers) → length (w .items) ≡ 64 → allBelow (entryForm w) 64 ≡ true → registrationsNumbers (registrationsOf w) ≡ w
+  pub forth : (w : RegistrationsNumbers) → length (w .items) ≡ 64 → allBelow (entryForm w) 64 ≡ true
+      → registrationsNumbers (registrationsOf w) ≡ w
   -- so two forms of one list are the same numbers
-  pub one-form : (v w : RegistrationsNumbers) → length (v .items) ≡ 64 → length (w .items) ≡ 64 → allBelow (entryForm v) 64 ≡ true → allBelow (entryForm w) 64 ≡ true → registrationsOf v ≡ registrationsOf w → v ≡ w
+  pub one-form : (v w : RegistrationsNumbers) → length (v .items) ≡ 64 → length (w .items) ≡ 64
+      → allBelow (entryForm v) 64 ≡ true → allBelow (entryForm w) 64 ≡ true → registrationsOf v ≡ registrationsOf w → v
+      ≡ w

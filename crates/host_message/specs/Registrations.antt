@@ -17,9 +17,12 @@ registrationsOf w = record { items = map registrationOf (w .items); len = w .len
 abbrev pub registrationsNumbers : Registrations → RegistrationsNumbers
 registrationsNumbers r = record { len = r .len; items = map registrationNumbers (r .items) }
 
--- an entry within the count has a scope and 16 bits of priority; behind the count stand zeros. A count over 64 stands as it is given
+-- an entry within the count has a scope and 16 bits of priority; behind the count stand zeros. A count over 64 stands
+-- as it is given
 abbrev pub isEntryForm : ℕ → ℕ → RegistrationNumbers → Bool
-isEntryForm n i w = cond (ltb i n) (ltb (w .scope) 3 && ltb (w .priority) 65536) (eqb (w .«class_mask») 0 && (eqb (w .scope) 0 && eqb (w .priority) 0))
+isEntryForm n i w =
+    cond (ltb i n) (ltb (w .scope) 3 && ltb (w .priority) 65536)
+    (eqb (w .«class_mask») 0 && (eqb (w .scope) 0 && eqb (w .priority) 0))
 
 -- the place i of the list
 abbrev pub entryForm : RegistrationsNumbers → ℕ → Bool

@@ -11,6 +11,7 @@ use handles::GenerationalHandle;
 use input_events::event::PlatformInputEvent;
 use input_router::router::PlatformInputRouter;
 
+// One event, routed on a lent registry and a lent router.
 pub fn route(
     registry: &mut CompositionRegistry,
     router: &mut PlatformInputRouter,
@@ -25,6 +26,7 @@ pub fn route(
     done.answer
 }
 
+// Ends the presses of a panel in a lent router.
 pub fn release_surface(
     router: &mut PlatformInputRouter,
     surface: GenerationalHandle,
@@ -36,6 +38,7 @@ pub fn release_surface(
     done.answer
 }
 
+// Ends all presses in a lent router and forgets sequences and the time.
 pub fn release_all(router: &mut PlatformInputRouter) -> ReleaseAnswer
     ensures { λ r. ⌜ ReleaseAllInPlace (now (router .entry)) (now (router .exit)) r ⌝ }
 {

@@ -5,6 +5,7 @@ use calls::call::Lists;
 use counter::answer::Answer;
 use counter::step::Counter;
 
+// Any call on a lent counter.
 pub fn step(counter: &mut Counter, call: Call, lists: Lists) -> Answer
     ensures { λ r. ⌜ StepInPlace (now (counter .entry)) call lists (now (counter .exit)) r ⌝ }
 {

@@ -1,4 +1,4 @@
--- What an event asks the registry to arbitrate (document 01, Targets), and which events release instead (Release order).
+-- What an event asks the registry to arbitrate (RULES.md, Targets), and which events release instead (Release order).
 use Prim.Native.Nat.{ℕ}
 use mathlib.Core.Bool.{Bool, true, false, not}
 use lib.IntN.{pos}
@@ -19,7 +19,8 @@ use Rattle.input_events.specs.declared.event.PointerPhase.the-variants a
 use Rattle.input_events.specs.declared.event.WheelInput.{WheelInput}
 use Rattle.input_events.specs.Presses.{pointerOf}
 
--- Targets, "An event that names its pointer": Down and Move aim by the hits, Up and Cancel by the panel that holds the press
+-- Targets, "An event that names its pointer": Down and Move aim by the hits, Up and Cancel by the panel that holds the
+-- press
 abbrev pub pointerEvent : PointerPhase → CompositionPointerId → OptionalHandle → ArbitrationEvent
 pointerEvent P.Down pointer held = A.PointerStackFor pointer
 pointerEvent P.Move pointer held = A.PointerStackFor pointer
@@ -41,7 +42,8 @@ shortcutEvent false mask = A.Shortcut
 
 -- an Up, a Cancel and a disconnected snapshot ask for the panel that has their press, so that it can be told; a Down, a
 -- Move and a wheel ask for the hits. Of a view's focus or visibility only the gain is arbitrated, as the Rust's
--- `FocusChanged { .. } | VisibilityChanged { .. } => Ok(ArbitrationEvent::Keyboard)`. A disconnect never is (the Rust has
+-- `FocusChanged { .. } | VisibilityChanged { .. } => Ok(ArbitrationEvent::Keyboard)`. A disconnect never is (the Rust
+-- has
 -- `unreachable!()` there), so nothing rests on its row.
 unfoldable pub arbitrationEventIn : InputDeviceId → PlatformInputPayload → OptionalHandle → ArbitrationEvent
 arbitrationEventIn d (Pointer p) held = pointerEvent (p .phase) (pointerOf d (p .contact)) held

@@ -1,4 +1,4 @@
--- Document 01, Route: 31, 8/9, 39, 20 (metrics revision), then 34, 35, 36, 37 or 38 by payload.
+-- RULES.md, Route: 31, 8/9, 39, 20 (metrics revision), then 34, 35, 36, 37 or 38 by payload.
 use Prim.Native.Nat.{ℕ}
 use mathlib.Core.Bool.{Bool, not, _&&_}
 use lib.Dec.{eqb, ltb, leb}
@@ -44,7 +44,8 @@ pointerRefusal p =
 -- 37, counter table: "Selection 2 to 3 in 3 bytes passes": it goes forward and stays inside the text
 abbrev pub selectionRefusal : CompositionInput → RouterOutcome
 selectionRefusal c =
-    routerRefusalIf (not (leb (c .«selection_start») (c .«selection_end») && leb (c .«selection_end») (c .length))) error.InvalidTextSelection
+    routerRefusalIf (not (leb (c .«selection_start») (c .«selection_end») && leb (c .«selection_end») (c .length)))
+    error.InvalidTextSelection
 
 -- 38: no class
 abbrev pub shortcutRefusal : ShortcutInput → RouterOutcome

@@ -1,4 +1,4 @@
--- What holds of the events' definitions: rows of document 01's counter table, the numbers, and the press of an event.
+-- What holds of the events' definitions: rows of RULES.md, Counter table, the numbers, and the press of an event.
 use Prim.Native.Nat.{ℕ, _≤_}
 use mathlib.Core.Path.{_≡_}
 use mathlib.Core.Bool.{Bool, true, false, _||_}
@@ -35,7 +35,8 @@ selectionNumber c = routerNumberOf (payloadRefusal (Composition c))
 
 -- Counter table: "Pressure 32,768 passes, 32,769 is 35", for every pointer whose contact and tilts are allowed
 pub record PressureRows (p : PointerInput) : Type 0 where
-  pub passes : isUpright (p .«tilt_x_degrees») ≡ true → isUpright (p .«tilt_y_degrees») ≡ true → p .«pressure_q15» ≡ 32768 → pointerNumber p ≡ 0
+  pub passes : isUpright (p .«tilt_x_degrees») ≡ true → isUpright (p .«tilt_y_degrees») ≡ true → p .«pressure_q15»
+      ≡ 32768 → pointerNumber p ≡ 0
   pub refused : p .«pressure_q15» ≡ 32769 → pointerNumber p ≡ 35
 
 -- Counter table: "Tilt 90 passes, -91 is 36", on either axis, for every pointer whose contact and pressure are allowed
@@ -95,14 +96,18 @@ isStackFor (A.SystemShortcut mask) = false
 
 pub record EventClaims : Type 0 where
   pub pressure : (p : PointerInput) → eqb (p .contact) 4294967295 ≡ false → PressureRows p
-  pub tilt : (p : PointerInput) → eqb (p .contact) 4294967295 ≡ false → ltb 32768 (p .«pressure_q15») ≡ false → TiltRows p
+  pub tilt : (p : PointerInput) → eqb (p .contact) 4294967295 ≡ false → ltb 32768 (p .«pressure_q15») ≡ false
+      → TiltRows p
   pub selection : (c : CompositionInput) → c .length ≡ 3 → SelectionRows c
   -- each number from 31 to 42 is of exactly one of the router's own refusals
   pub some-case : (n : ℕ) → 31 ≤ n → n ≤ 42 → OwnOf n
-  pub one-case : (e f : PlatformInputError) → isOwn e ≡ true → isOwn f ≡ true → routerErrorNumber e ≡ routerErrorNumber f → e ≡ f
+  pub one-case : (e f : PlatformInputError) → isOwn e ≡ true → isOwn f ≡ true → routerErrorNumber e
+      ≡ routerErrorNumber f → e ≡ f
   -- of these only 41 and 42 are also numbers of the registry's refusals
   pub carried : (e : CompositionError) → (leb (errorNumber e) 22 || leb 41 (errorNumber e)) ≡ true
   -- an event opens or ends only the press that it concerns
-  pub own-press : (e : PlatformInputEvent) (press : BindingKey) → touched (effectOf e) ≡ Some press → pressOf e ≡ Some press
+  pub own-press : (e : PlatformInputEvent) (press : BindingKey) → touched (effectOf e) ≡ Some press → pressOf e
+      ≡ Some press
   -- the hits are asked for exactly where the targets are the hits
-  pub hits-asked : (d : InputDeviceId) (payload : PlatformInputPayload) (held : OptionalHandle) → needsHits payload ≡ isStackFor (arbitrationEventIn d payload held)
+  pub hits-asked : (d : InputDeviceId) (payload : PlatformInputPayload) (held : OptionalHandle) → needsHits payload
+      ≡ isStackFor (arbitrationEventIn d payload held)

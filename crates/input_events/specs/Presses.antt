@@ -1,4 +1,4 @@
--- Document 01, Presses: "A press is a pointer, a device's key or its gamepad".
+-- RULES.md, Presses: "A press is a pointer, a device's key or its gamepad".
 use Prim.Native.Nat.{ℕ}
 use mathlib.Core.Bool.{Bool, true, false, not}
 use mathlib.Core.Option.{Option, none, some}
@@ -51,7 +51,8 @@ pressIn d DeviceDisconnected = None
 abbrev pub pressOf : PlatformInputEvent → OptionalPress
 pressOf e = pressIn (e .header .device) (e .payload)
 
--- "A pointer Down, a key Down without repeat or a connected snapshot with a receiver opens the press or moves it to the new receiver"
+-- "A pointer Down, a key Down without repeat or a connected snapshot with a receiver opens the press or moves it to the
+-- new receiver"
 -- "Up, Cancel or a disconnected snapshot ends it, even if its panel was not delivered to."
 abbrev pub pointerEffect : PointerPhase → BindingKey → Effect
 pointerEffect P.Down press = Opens press

@@ -1,4 +1,4 @@
--- Document 01, What each call refuses: the router's numbers, and the order of its refusals.
+-- RULES.md, Refusals: the router's numbers, and the order of its refusals.
 use Prim.Native.Nat.{ℕ}
 use mathlib.Core.Bool.{Bool, true, false}
 use Rattle.records.specs.Errors.{errorNumber}

@@ -4,7 +4,7 @@ ghost use Rattle.input_events.specs.RouterErrors.{routerErrorNumber, rou
 use records::error::CompositionError;
 use records::error::Outcome;
 
-// The Rust's errors in their declared order, the two added by document 01, and the registry's refusals.
+// The Rust's errors in their declared order, the two added by the port, and the registry's refusals.
 pub enum PlatformInputError {
     InvalidDevice,
     InvalidSequence,
@@ -66,7 +66,7 @@ pub fn from_composition(outcome: Outcome) -> RouterOutcome
     }
 }
 
-// Document 01's number of an error.
+// REFUSALS.md's number of an error.
 pub fn error_number(error: PlatformInputError) -> u64
     ensures { λ r. ⌜ r ≡ routerErrorNumber error ⌝ }
 {
@@ -87,7 +87,7 @@ pub fn error_number(error: PlatformInputError) -> u64
     }
 }
 
-// Document 01's number of an answer: 0 is accepted.
+// REFUSALS.md's number of an answer: 0 is accepted.
 pub fn number(outcome: RouterOutcome) -> u64
     ensures { λ r. ⌜ r ≡ routerNumberOf outcome ⌝ }
 {

@@ -1,4 +1,5 @@
-// The events of the platform. Key names and texts are left out: of a text its length counts. So are a gamepad's axes and buttons.
+// The events of the platform. Key names and texts are left out: of a text its length counts. So are a gamepad's axes
+// and buttons.
 use handles::GenerationalHandle;
 use maps::keys::InputDeviceId;
 

@@ -20,7 +20,14 @@ noResult = record { revision = 0; deliveries = packed deliveries []; «consumed_
 
 -- a refused event lists no release
 abbrev pub noReport : PlatformInputRoutingReport
-noReport = record { kind = Nothing; arbitration = noResult; «synthesized_releases» = packed releases []; «view_release» = S.None; «composition_revision» = 0 }
+noReport =
+    record {
+      kind = Nothing;
+      arbitration = noResult;
+      «synthesized_releases» = packed releases [];
+      «view_release» = S.None;
+      «composition_revision» = 0;
+    }
 
 -- a refusal, with what it has written
 abbrev pub refusedWith : PlatformInputError → CompositionRegistry → PlatformInputRouter → Routed

@@ -1,4 +1,5 @@
--- Document 01, Release order: a device's presses or those of a view's panels, then its captures; and what a refusal there has written.
+-- RULES.md, Release order: a device's presses or those of a view's panels, then its captures; and what a refusal there
+-- has written.
 use Prim.Native.Nat.{ℕ}
 use Rattle.lists.specs.Tables.{entriesOf, packed}
 use Rattle.handles.specs.declared.GenerationalHandle.{GenerationalHandle}
@@ -31,18 +32,30 @@ use Rattle.input_releases.specs.Answers.{noResult, refusedWith}
 
 -- a disconnect lists releases and answers the registry's revision
 abbrev pub disconnectReport : Releases → ℕ → PlatformInputRoutingReport
-disconnectReport l n = record { kind = Disconnected; arbitration = noResult; «synthesized_releases» = l; «view_release» = S.None; «composition_revision» = n }
+disconnectReport l n =
+    record {
+      kind = Disconnected;
+      arbitration = noResult;
+      «synthesized_releases» = l;
+      «view_release» = S.None;
+      «composition_revision» = n;
+    }
 
--- the presses of the device, then the captures of its pointers by view slot and pointer; its sequence is forgotten, not the time
+-- the presses of the device, then the captures of its pointers by view slot and pointer; its sequence is forgotten, not
+-- the time
 -- refused 21: its presses are dropped unlisted, its captures too, and the sequence stays
 abbrev pub disconnectAfter : CapturesReleased → PlatformInputRouter → InputDeviceId → Outcome → Routed
 disconnectAfter c t device composition.Accepted = record {
   outcome = Accepted;
-  report = disconnectReport (packed releases (addCaptures (entriesOf bindings (devicePresses t device)) (entriesOf captureList (c .released)))) (c .registry .revision);
+  report =
+      disconnectReport (packed releases
+      (addCaptures (entriesOf bindings (devicePresses t device)) (entriesOf captureList (c .released))))
+      (c .registry .revision);
   registry = c .registry;
   router = withoutDevice t device;
 }
-disconnectAfter c t device (composition.Refused e) = refusedWith (error.Composition e) (c .registry) (withoutDevicePresses t device)
+disconnectAfter c t device (composition.Refused e) =
+    refusedWith (error.Composition e) (c .registry) (withoutDevicePresses t device)
 
 unfoldable pub routedDisconnect : CompositionRegistry → PlatformInputRouter → InputDeviceId → Routed
 routedDisconnect r t device =
@@ -51,20 +64,36 @@ routedDisconnect r t device =
 
 -- a loss also answers what its view has let go
 abbrev pub lossReport : Releases → OptionalInputState → ℕ → PlatformInputRoutingReport
-lossReport l s n = record { kind = ViewGone; arbitration = noResult; «synthesized_releases» = l; «view_release» = s; «composition_revision» = n }
+lossReport l s n =
+    record {
+      kind = ViewGone;
+      arbitration = noResult;
+      «synthesized_releases» = l;
+      «view_release» = s;
+      «composition_revision» = n;
+    }
 
 -- the view's focus, captures and composition are suspended; refused 21 after that change, its presses dropped unlisted
 abbrev pub lossAfter : Suspended → PlatformInputRouter → Releases → Outcome → Routed
-lossAfter s t l composition.Accepted = record { outcome = Accepted; report = lossReport l (s .released) (s .registry .revision); registry = s .registry; router = t }
+lossAfter s t l composition.Accepted =
+    record {
+      outcome = Accepted;
+      report = lossReport l (s .released) (s .registry .revision);
+      registry = s .registry;
+      router = t;
+    }
 lossAfter s t l (composition.Refused e) = refusedWith (error.Composition e) (s .registry) t
 
 unfoldable pub suspendedLoss : CompositionRegistry → PlatformInputRouter → GenerationalHandle → Releases → Routed
 suspendedLoss r t view l = let s = suspendViewInput r view (r .revision) in lossAfter s t l (s .outcome)
 
--- the presses of the view's panels, then its captures by pointer; a closed owner refuses, with the kinds before it dropped
+-- the presses of the view's panels, then its captures by pointer; a closed owner refuses, with the kinds before it
+-- dropped
 abbrev pub lossFrom : CompositionRegistry → GenerationalHandle → ViewReleased → Outcome → Routed
 lossFrom r view v composition.Accepted =
-    suspendedLoss r (v .router) view (packed releases (addCaptures (entriesOf bindings (v .presses)) (entriesOf captures (viewAt (r .views) view .«pointer_captures»))))
+    suspendedLoss r (v .router) view
+    (packed releases (addCaptures (entriesOf bindings (v .presses))
+    (entriesOf captures (viewAt (r .views) view .«pointer_captures»))))
 lossFrom r view v (composition.Refused e) = refusedWith (error.Composition e) r (v .router)
 
 unfoldable pub routedLoss : CompositionRegistry → PlatformInputRouter → GenerationalHandle → Routed

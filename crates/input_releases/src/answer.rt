@@ -19,7 +19,8 @@ pub enum RouteKind {
     ViewReleased,
 }
 
-// The Rust's report without its copy of the event. The arbitration stands if the event was arbitrated, and is blank else.
+// The Rust's report without its copy of the event. The arbitration stands if the event was arbitrated, and is blank
+// else.
 pub struct PlatformInputRoutingReport {
     pub kind: RouteKind,
     pub arbitration: ArbitrationResult,

@@ -1,4 +1,4 @@
--- Document 01, Route: 42, 31, 8/9, 39, 20, then 34 to 38 by payload, 40, 32, 33, 41; all before anything is written.
+-- RULES.md, Route: 42, 31, 8/9, 39, 20, then 34 to 38 by payload, 40, 32, 33, 41; all before anything is written.
 use mathlib.Core.Bool.{Bool, not, _&&_}
 use Rattle.composition_state.specs.declared.registry.CompositionRegistry.{CompositionRegistry}
 use Rattle.records.specs.declared.view.ViewTable.{ViewTable}
@@ -43,7 +43,7 @@ refusalOfOrder order.PortLimit = Refused error.PortLimit
 abbrev pub orderRefusal : PlatformInputRouter → PlatformInputHeader → RouterOutcome
 orderRefusal t h = refusalOfOrder (orderOf t (h .device) (h .sequence) (h .«timestamp_micros»))
 
--- the first refusal of an event, in document 01's order, from what the damage test of the registry says
+-- the first refusal of an event, in the order of RULES.md, Route, from what the damage test of the registry says
 abbrev pub refusalWith : Bool → ViewTable → PlatformInputRouter → PlatformInputEvent → RouterOutcome
 refusalWith sound views t e =
     thenRouterRefusal (routerRefusalIf (not (sound && isRouterSound t)) error.Damaged)

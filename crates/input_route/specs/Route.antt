@@ -1,4 +1,4 @@
--- Document 01, Route, Presses: what is recorded, and then the disconnect, the view's loss or the arbitration of an event.
+-- RULES.md, Route, Presses: what is recorded, and then the disconnect, the view's loss or the arbitration of an event.
 use mathlib.Core.Bool.{cond}
 use mathlib.Core.List.{[]}
 use Rattle.lists.specs.Tables.{packed}
@@ -45,9 +45,11 @@ heldFor t e = heldAt t (pressOf e)
 
 -- the hits at the point of an event that is aimed by it
 unfoldable pub hitsFor : CompositionRegistry → PlatformInputEvent → Hits
-hitsFor r e = cond (needsHits (e .payload)) (packed hits (viewHits r (e .header .view) (pointOf (e .payload)))) (packed hits [])
+hitsFor r e =
+    cond (needsHits (e .payload)) (packed hits (viewHits r (e .header .view) (pointOf (e .payload)))) (packed hits [])
 
--- Presses: "with a receiver opens the press or moves it to the new receiver, with no release listed. Without a receiver an older press is unchanged.
+-- Presses: "with a receiver opens the press or moves it to the new receiver, with no release listed. Without a receiver
+-- an older press is unchanged.
 -- Up, Cancel or a disconnected snapshot ends it, even if its panel was not delivered to."
 abbrev pub tracked : PlatformInputRouter → Effect → OptionalHandle → PlatformInputRouter
 tracked t (Opens key) O.None = t
@@ -57,7 +59,14 @@ tracked t Nothing receiver = t
 
 -- an arbitrated event lists no release
 abbrev pub arbitratedReport : ArbitrationResult → PlatformInputRoutingReport
-arbitratedReport a = record { kind = kind.Arbitrated; arbitration = a; «synthesized_releases» = packed releases []; «view_release» = S.None; «composition_revision» = a .revision }
+arbitratedReport a =
+    record {
+      kind = kind.Arbitrated;
+      arbitration = a;
+      «synthesized_releases» = packed releases [];
+      «view_release» = S.None;
+      «composition_revision» = a .revision;
+    }
 
 -- an accepted arbitration tracks the press; a refused one leaves the presses
 abbrev pub arbitratedAfter : Arbitrated → PlatformInputRouter → PlatformInputEvent → Outcome → Routed

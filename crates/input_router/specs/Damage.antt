@@ -1,4 +1,4 @@
--- Document 01, every call: 42 first, if the router handed in is damaged in one of these ways, and in no other.
+-- RULES.md, Damage: 42 first, if the router handed in is damaged in one of these ways, and in no other.
 use mathlib.Core.Bool.{Bool, _&&_}
 use lib.Dec.{leb}
 use Rattle.maps.specs.MapTables.{keysRise}
@@ -13,7 +13,9 @@ limitSound r = isStarted (startOutcome (r .«max_active_bindings»))
 
 -- a stored count exceeds its table or configured limit
 abbrev pub countsSound : PlatformInputRouter → Bool
-countsSound r = (leb (r .bindings .len) 128 && leb (r .«device_sequences» .len) 32) && leb (r .bindings .len) (r .«max_active_bindings»)
+countsSound r =
+    (leb (r .bindings .len) 128 && leb (r .«device_sequences» .len) 32)
+    && leb (r .bindings .len) (r .«max_active_bindings»)
 
 -- map keys do not strictly rise
 abbrev pub keysSound : PlatformInputRouter → Bool

@@ -1,4 +1,4 @@
--- Document 01, Route: 32, 33, 41 (unseen device, table full), in this order; and what an event in order records.
+-- RULES.md, Order of events: 32, 33, 41 (unseen device, table full), in this order; and what an event in order records.
 use Prim.Native.Nat.{ℕ}
 use mathlib.Core.Bool.{Bool, false, cond, _||_}
 use lib.Dec.{ltb, leb, eqb}
@@ -40,5 +40,6 @@ orderOf r device n time =
 abbrev pub recorded : PlatformInputRouter → InputDeviceId → ℕ → ℕ → PlatformInputRouter
 recorded r device n time =
     cond (hasPlace r device n)
-    (withTimestamp time (withSequences (inserted sequences sequenceKey (sequenceEntry device n) (r .«device_sequences»)) r))
+    (withTimestamp time (withSequences (inserted sequences sequenceKey (sequenceEntry device n) (r .«device_sequences»))
+    r))
     r

@@ -1,4 +1,4 @@
--- Document 01, Presses, and 40: a router full of presses opens no other.
+-- RULES.md, Presses, and 40: a router full of presses opens no other.
 use mathlib.Core.Bool.{Bool, _||_}
 use lib.Dec.{ltb}
 use lib.ListN.{length}
@@ -21,7 +21,9 @@ heldBy r key = surfaceOf (found bindings keyOfBinding (bindingKey key) (r .bindi
 
 -- the press is open already, or the open presses are below the limit
 abbrev pub hasRoom : PlatformInputRouter → BindingKey → Bool
-hasRoom r key = isSome (found bindings keyOfBinding (bindingKey key) (r .bindings)) || ltb (length (pressesOf r)) (r .«max_active_bindings»)
+hasRoom r key =
+    isSome (found bindings keyOfBinding (bindingKey key) (r .bindings))
+    || ltb (length (pressesOf r)) (r .«max_active_bindings»)
 
 -- a Down opens the press or moves it to the new receiver
 abbrev pub opened : PlatformInputRouter → BindingKey → GenerationalHandle → PlatformInputRouter

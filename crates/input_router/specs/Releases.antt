@@ -1,4 +1,4 @@
--- Document 01, Release order: `release_surface` and `release_all` refuse 42 only; the presses of a device.
+-- RULES.md, Route, Release order: `release_surface` and `release_all` refuse 42 only; the presses of a device.
 use mathlib.Core.Bool.{Bool, cond, not}
 use mathlib.Core.List.{List, []}
 use Rattle.lists.specs.Lists.{keep}

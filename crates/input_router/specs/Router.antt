@@ -25,28 +25,53 @@ startNumber Accepted = 0
 startNumber Capacity = 40
 startNumber PortLimit = 41
 
--- document 01, Router start: over 128 bindings, 41; the full commit decides that a limit of 0 is refused, 40
+-- RULES.md, Start: over 128 bindings, 41; a limit of 0 is refused, 40, as in the Rust
 abbrev pub startOutcome : ℕ → StartOutcome
 startOutcome limit = cond (eqb limit 0) Capacity (cond (ltb 128 limit) PortLimit Accepted)
 
 -- no press, no known device, no time
 abbrev pub emptyRouter : ℕ → PlatformInputRouter
-emptyRouter limit = record { «max_active_bindings» = limit; «last_timestamp_micros» = 0; «device_sequences» = packed sequences []; bindings = packed bindings [] }
+emptyRouter limit =
+    record {
+      «max_active_bindings» = limit;
+      «last_timestamp_micros» = 0;
+      «device_sequences» = packed sequences [];
+      bindings = packed bindings [];
+    }
 
 -- a refused start answers a router with limit 0, which every call refuses 42
 abbrev pub started : ℕ → RouterStart
-started limit = record { outcome = startOutcome limit; router = emptyRouter (cond (isStarted (startOutcome limit)) limit 0) }
+started limit =
+    record { outcome = startOutcome limit; router = emptyRouter (cond (isStarted (startOutcome limit)) limit 0) }
 
 -- the router with one field changed
 abbrev pub withBindings : Bindings → PlatformInputRouter → PlatformInputRouter
-withBindings b r = record { «max_active_bindings» = r .«max_active_bindings»; «last_timestamp_micros» = r .«last_timestamp_micros»; «device_sequences» = r .«device_sequences»; bindings = b }
+withBindings b r =
+    record {
+      «max_active_bindings» = r .«max_active_bindings»;
+      «last_timestamp_micros» = r .«last_timestamp_micros»;
+      «device_sequences» = r .«device_sequences»;
+      bindings = b;
+    }
 
 abbrev pub withSequences : DeviceSequences → PlatformInputRouter → PlatformInputRouter
-withSequences s r = record { «max_active_bindings» = r .«max_active_bindings»; «last_timestamp_micros» = r .«last_timestamp_micros»; «device_sequences» = s; bindings = r .bindings }
+withSequences s r =
+    record {
+      «max_active_bindings» = r .«max_active_bindings»;
+      «last_timestamp_micros» = r .«last_timestamp_micros»;
+      «device_sequences» = s;
+      bindings = r .bindings;
+    }
 
 abbrev pub withTimestamp : ℕ → PlatformInputRouter → PlatformInputRouter
-withTimestamp t r = record { «max_active_bindings» = r .«max_active_bindings»; «last_timestamp_micros» = t; «device_sequences» = r .«device_sequences»; bindings = r .bindings }
+withTimestamp t r =
+    record {
+      «max_active_bindings» = r .«max_active_bindings»;
+      «last_timestamp_micros» = t;
+      «device_sequences» = r .«device_sequences»;
+      bindings = r .bindings;
+    }
 
--- the open presses, by kind and key: document 01's order of releases
+-- the open presses, by kind and key: RULES.md, Release order
 abbrev pub pressesOf : PlatformInputRouter → List Binding
 pressesOf r = entriesOf bindings (r .bindings)

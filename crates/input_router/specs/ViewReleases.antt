@@ -1,4 +1,5 @@
--- Document 01, Release order, of the view's panels: a view release that meets a closed owner has dropped the kinds before it.
+-- RULES.md, Release order, of the view's panels; What a refusal has written: a view release that meets a closed owner
+-- has dropped the kinds before it.
 use Prim.Native.Nat.{ℕ}
 use mathlib.Core.Bool.{Bool, true, cond, not, _&&_}
 use mathlib.Core.List.{List, []}
@@ -43,7 +44,8 @@ abbrev pub closedRefusal : SurfaceTable → OptionalBinding → Outcome
 closedRefusal surfaces None = Accepted
 closedRefusal surfaces (Some e) = surfaceRefusal surfaces (e .surface)
 
--- the kinds before that of the closed panel's press are dropped, and all where no panel is closed: the Rust goes kind by
+-- the kinds before that of the closed panel's press are dropped, and all where no panel is closed: the Rust goes kind
+-- by
 -- kind, looks up the panels of all presses of a kind (`belongs_to_view(*surface)?`) before it removes any of them, and
 -- ends at the first that is closed. With a pointer on a live panel and two keys, one on a closed panel, the pointer is
 -- dropped and both keys stay.
@@ -63,7 +65,9 @@ abbrev pub releaseViewTo : PlatformInputRouter → SurfaceTable → Generational
 releaseViewTo r surfaces view stop =
     record {
       outcome = closedRefusal surfaces stop;
-      presses = packed bindings (cond (isAccepted (closedRefusal surfaces stop)) (keep (isTaken surfaces view stop) (pressesOf r)) []);
+      presses =
+          packed bindings (cond (isAccepted (closedRefusal surfaces stop))
+          (keep (isTaken surfaces view stop) (pressesOf r)) []);
       router = withBindings (packed bindings (keep (λ e. not (isTaken surfaces view stop e)) (pressesOf r))) r;
     }
 

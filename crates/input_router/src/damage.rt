@@ -6,6 +6,7 @@ use crate::router::start_outcome;
 use lists::both;
 
 impl PlatformInputRouter {
+    // Whether a router passes the damage test; one that does not is refused 42 by every call.
     pub fn is_sound(self) -> bool
         ensures { λ r. ⌜ r ≡ isRouterSound self ⌝ }
     {

@@ -32,7 +32,8 @@ fn is_old(last: OptionalSequence, sequence: u64) -> bool
 
 // Whether the device is known, or a place is left for it.
 fn has_place(known: DeviceSequences, device: InputDeviceId) -> bool
-    ensures { λ r. ⌜ r ≡ (isSome (found sequences sequenceKey (deviceKey device) known) || ltb (length (entriesOf sequences known)) 32) ⌝ }
+    ensures { λ r. ⌜ r ≡ (isSome (found sequences sequenceKey (deviceKey device) known)
+        || ltb (length (entriesOf sequences known)) 32) ⌝ }
 {
     let last = known.get(device);
     match last {

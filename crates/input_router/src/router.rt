@@ -37,7 +37,7 @@ impl StartOutcome {
     }
 }
 
-// Document 01's number of a start.
+// REFUSALS.md's number of a start.
 pub fn start_number(outcome: StartOutcome) -> u64
     ensures { λ r. ⌜ r ≡ startNumber outcome ⌝ }
 {
@@ -75,6 +75,7 @@ impl PlatformInputRouter {
         }
     }
 
+    // A router without presses that holds at most so many.
     pub fn new(max_active_bindings: u64) -> RouterStart
         ensures { λ r. ⌜ r ≡ started «max_active_bindings» ⌝ }
     {
@@ -111,6 +112,7 @@ impl PlatformInputRouter {
         next
     }
 
+    // How many presses are open.
     pub fn active_binding_count(self) -> usize
         ensures { λ r. ⌜ r ≡ length (pressesOf self) ⌝ }
     {

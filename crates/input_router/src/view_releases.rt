@@ -96,7 +96,8 @@ fn is_chosen(
     wants_taken: bool,
     press: Binding,
 ) -> bool
-    ensures { λ r. ⌜ r ≡ cond «wants_taken» (isTaken surfaces view stop press) (not (isTaken surfaces view stop press)) ⌝ }
+    ensures { λ r. ⌜ r ≡ cond «wants_taken» (isTaken surfaces view stop press)
+        (not (isTaken surfaces view stop press)) ⌝ }
 {
     let taken = is_taken(surfaces, view, stop, press);
     if wants_taken {
@@ -124,7 +125,9 @@ fn view_part(
     stop: OptionalBinding,
     wants_taken: bool,
 ) -> Bindings
-    ensures { λ r. ⌜ r ≡ packed bindings (keep (λ e. cond «wants_taken» (isTaken surfaces view stop e) (not (isTaken surfaces view stop e))) (entriesOf bindings presses)) ⌝ }
+    ensures { λ r. ⌜ r ≡ packed bindings
+        (keep (λ e. cond «wants_taken» (isTaken surfaces view stop e) (not (isTaken surfaces view stop e)))
+        (entriesOf bindings presses)) ⌝ }
 {
     let n = presses.count();
     let mut next = Bindings::new();
@@ -140,6 +143,7 @@ fn view_part(
 }
 
 impl PlatformInputRouter {
+    // Ends the presses of a view's panels, kind by kind, up to a press whose panel is closed.
     pub fn release_view(self, surfaces: SurfaceTable, view: GenerationalHandle) -> ViewReleased
         ensures { λ r. ⌜ r ≡ releaseView self surfaces view ⌝ }
     {

@@ -7,6 +7,8 @@ use Rattle.script.specs.Numbers.{numberOf}
 use Rattle.answer_text.specs.Decimal.{decimal}
 
 pub record RoundTripClaims : Type 0 where
-  pub read-back : (n : ℕ) → n < 2 ^ 64 → numberOf (decimal n) ≡ record { number = record { negative = false; magnitude = n }; «is_number» = true }
+  pub read-back : (n : ℕ) → n < 2 ^ 64 → numberOf (decimal n)
+      ≡ record { number = record { negative = false; magnitude = n }; «is_number» = true }
   -- with a minus (45) before it
-  pub read-back-negative : (n : ℕ) → 0 < n → n < 2 ^ 64 → numberOf (45 ∷ decimal n) ≡ record { number = record { negative = true; magnitude = n }; «is_number» = true }
+  pub read-back-negative : (n : ℕ) → 0 < n → n < 2 ^ 64 → numberOf (45 ∷ decimal n)
+      ≡ record { number = record { negative = true; magnitude = n }; «is_number» = true }

@@ -21,4 +21,5 @@ isComplete chunk from = ltb (from + length (lineIn chunk from)) (length chunk)
 
 -- where the chunk goes on: past the line feed
 abbrev pub nextPlace : List ℕ → ℕ → ℕ
-nextPlace chunk from = cond (isComplete chunk from) (from + length (lineIn chunk from) + 1) (from + length (lineIn chunk from))
+nextPlace chunk from =
+    cond (isComplete chunk from) (from + length (lineIn chunk from) + 1) (from + length (lineIn chunk from))

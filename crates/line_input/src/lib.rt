@@ -11,16 +11,19 @@ ghost use Rattle.script.specs.Lines.{lineOf, isSkipped};
 ghost use Rattle.line_input.specs.Claims.{RoundTripClaims};
 ghost use Rattle.line_input.specs.LineInput.{lineTaken, nextPlace, isComplete};
 
-// What is known once bytes are taken: where the chunk goes on, how much of the line is there, and whether that is all of it.
+// What is known once bytes are taken: where the chunk goes on, how much of the line is there, and whether that is all
+// of it.
 pub struct Taken {
     pub next: usize,
     pub len: usize,
     pub complete: bool,
 }
 
-// Takes the bytes of a chunk from an index on, up to a line feed or the chunk's end, into a line of which `len` bytes are there.
+// Takes the bytes of a chunk from an index on, up to a line feed or the chunk's end, into a line of which `len` bytes
+// are there.
 pub fn take_line(line: &mut [u8], len: usize, chunk: &[u8], from: usize) -> Taken
-    ensures { λ r. ⌜ _≡_ {A = List ℕ × ℕ} (now (line .exit), r .len) (lineTaken (now (line .entry), len) (now (chunk .entry)) from) ⌝ }
+    ensures { λ r. ⌜ _≡_ {A = List ℕ × ℕ} (now (line .exit), r .len)
+        (lineTaken (now (line .entry), len) (now (chunk .entry)) from) ⌝ }
     ensures { λ r. ⌜ r .next ≡ nextPlace (now (chunk .entry)) from ⌝ }
     ensures { λ r. ⌜ r .complete ≡ isComplete (now (chunk .entry)) from ⌝ }
 {

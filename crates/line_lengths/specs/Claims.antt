@@ -17,14 +17,16 @@ use Rattle.line_lengths.specs.Texts.{answerPieces, statePieces, routerSt
 -- columns put into a buffer, and the end of their line behind them, are the whole text of the line
 abbrev pub Whole : (List ℕ → List ℕ × ℕ) → List (List ℕ) → Counter → Bool → Type 0
 Whole columns pieces k shown =
-    (buf : List ℕ) → 524288 ≤ length buf → putAll (endPieces k shown) (columns buf) ≡ textThen (lineText pieces k shown) buf
+    (buf : List ℕ) → 524288 ≤ length buf → putAll (endPieces k shown) (columns buf)
+    ≡ textThen (lineText pieces k shown) buf
 
 -- of every counter whose arrays have their lengths, whatever the numbers in it: no piece is left out
 pub record LineLengthClaims : Type 0 where
   -- an answer of `step`
   pub answered : (k : Counter) → StateLengths k → (call : Call) (l : Lists) (calls : ℕ) (shown : Bool)
       → let x = stepped k call l in
-      Whole (answerTaken calls call (x .answer) (x .counter)) (answerPieces calls call (x .answer) (x .counter)) (x .counter) shown
+      Whole (answerTaken calls call (x .answer) (x .counter)) (answerPieces calls call (x .answer) (x .counter))
+      (x .counter) shown
   -- a call that shows its number alone, and a line that is no call
   pub plain : (k : Counter) (calls number revision : ℕ) (shown : Bool)
       → Whole (λ buf. putAll (plainPieces calls number revision) (buf, 0)) (plainPieces calls number revision) k shown

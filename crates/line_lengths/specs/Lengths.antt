@@ -1,4 +1,5 @@
--- The lengths of the arrays that a line is made from, as their types fix them: those of an answer, and those of the dumps.
+-- The lengths of the arrays that a line is made from, as their types fix them: those of an answer, and those of the
+-- dumps.
 use mathlib.Core.Path.{_≡_}
 use lib.ListN.{length}
 use Rattle.counter.specs.declared.step.Counter.{Counter}

@@ -36,7 +36,8 @@ morePieces (some l) = entryPieces shownPieces l
 
 -- columns 1 to 8 of an answered call
 abbrev pub answerPieces : ℕ → Call → Answer → Counter → List (List ℕ)
-answerPieces calls call a k = columnPieces calls (k .registry .revision) a ++ namedPieces (handleFor call a) ++ morePieces (moreOf call a k)
+answerPieces calls call a k =
+    columnPieces calls (k .registry .revision) a ++ namedPieces (handleFor call a) ++ morePieces (moreOf call a k)
 
 -- columns 1 to 8 of `state`, and of `router_state`: the whole dump
 abbrev pub statePieces : ℕ → CompositionRegistry → List (List ℕ)

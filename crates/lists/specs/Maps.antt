@@ -5,7 +5,8 @@ use mathlib.Core.Option.{Option}
 use Rattle.lists.specs.Lists.{keep, first}
 
 module _ {E K : Type 0} (key : E → K) (lt : K → K → Bool) where
-  -- the entry in its place: after those with lesser keys, instead of the one with its key, before those with greater keys
+  -- the entry in its place: after those with lesser keys, instead of the one with its key, before those with greater
+  -- keys
   abbrev pub insert : E → List E → List E
   insert e l = keep (λ f. lt (key f) (key e)) l ++ (e ∷ keep (λ f. lt (key e) (key f)) l)
 
@@ -13,7 +14,7 @@ module _ {E K : Type 0} (key : E → K) (lt : K → K → Bool) where
   risingFrom e [] = true
   risingFrom e (f ∷ l) = lt (key e) (key f) && risingFrom f l
 
-  -- document 01, 42: whether map keys strictly rise, each less than the next
+  -- RULES.md, Damage: whether map keys strictly rise, each less than the next
   abbrev pub rising : List E → Bool
   rising [] = true
   rising (e ∷ l) = risingFrom e l

@@ -1,4 +1,5 @@
--- A table: an array of a fixed length, of which the first `len` places hold its entries. One form for every kind of entry.
+-- A table: an array of a fixed length, of which the first `len` places hold its entries. One form for every kind of
+-- entry.
 use Prim.Native.Nat.{ℕ, _+_}
 use mathlib.Core.Bool.{cond}
 use mathlib.Core.Path.{_≡_}

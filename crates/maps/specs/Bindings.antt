@@ -1,4 +1,4 @@
--- The open presses of a router (document 01: presses), by kind and key.
+-- The open presses of a router (RULES.md, Presses), by kind and key.
 use mathlib.Core.Path.{refl}
 use mathlib.Core.Bool.{Bool, true, false, cond}
 use mathlib.Core.Option.{Option, none, some}
@@ -16,11 +16,12 @@ use Rattle.maps.specs.Keys.{bindingKey}
 use Rattle.maps.specs.Tests.{entryPasses}
 use Rattle.maps.specs.MapTables.{accepts, inserted}
 
--- document 01, Router start: at most 128 bindings
+-- RULES.md, Start: at most 128 bindings
 abbrev pub bindings : Shape Binding Bindings
 bindings = record {
   size = 128;
-  blank = record { key = Pointer (record { device = 0; «device_generation» = 0; contact = 0 }); surface = handleOf 0 0 };
+  blank =
+      record { key = Pointer (record { device = 0; «device_generation» = 0; contact = 0 }); surface = handleOf 0 0 };
   make = λ l n. record { entries = l; len = n };
   all = λ t. t .entries;
   len = λ t. t .len;

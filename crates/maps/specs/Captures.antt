@@ -15,7 +15,7 @@ use Rattle.maps.specs.Keys.{pointerKey}
 use Rattle.maps.specs.Tests.{entryPasses}
 use Rattle.maps.specs.MapTables.{accepts, inserted}
 
--- document 01, Port limits: 32 captures a view
+-- RULES.md, Port limits: 32 captures a view
 abbrev pub captures : Shape Capture PointerCaptures
 captures = record {
   size = 32;

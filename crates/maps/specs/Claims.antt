@@ -21,6 +21,7 @@ pub record Claims : Type 0 where
   pub one-pointer : (p q : CompositionPointerId) → pointerKey p ≡ pointerKey q → p ≡ q
   pub one-device : (d e : InputDeviceId) → deviceKey d ≡ deviceKey e → d ≡ e
   pub one-binding : (j k : BindingKey) → bindingKey j ≡ bindingKey k → j ≡ k
-  -- document 01, Release order: pointers before keys before gamepads
-  pub pointers-first : (p : CompositionPointerId) (k : DeviceKey) → keyLt (bindingKey (Pointer p)) (bindingKey (Key k)) ≡ true
+  -- RULES.md, Release order: pointers before keys before gamepads
+  pub pointers-first : (p : CompositionPointerId) (k : DeviceKey) → keyLt (bindingKey (Pointer p)) (bindingKey (Key k))
+      ≡ true
   pub keys-second : (k : DeviceKey) (d : InputDeviceId) → keyLt (bindingKey (Key k)) (bindingKey (Gamepad d)) ≡ true

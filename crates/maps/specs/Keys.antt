@@ -10,7 +10,7 @@ use Rattle.maps.specs.declared.keys.BindingKey.{BindingKey}
 use Rattle.maps.specs.declared.keys.BindingKey.the-variants as B
 use Rattle.maps.specs.declared.keys.MapKey.{MapKey}
 
--- document 01, Modules: valid means value and generation not 0, contact not 4,294,967,295
+-- RULES.md, Validity: valid means value and generation not 0, contact not 4,294,967,295
 abbrev pub pointerValid : CompositionPointerId → Bool
 pointerValid p = not (eqb (p .device) 0) && (not (eqb (p .«device_generation») 0) && not (eqb (p .contact) 4294967295))
 
@@ -20,7 +20,8 @@ deviceValid d = not (eqb (d .value) 0) && not (eqb (d .generation) 0)
 abbrev pub mapKey : ℕ → ℕ → ℕ → ℕ → MapKey
 mapKey kind device generation code = record { kind = kind; device = device; generation = generation; code = code }
 
--- document 01, Release order: pointers by device, generation, contact; then keys by device, generation, key; then gamepads by device, generation
+-- RULES.md, Release order: pointers by device, generation, contact; then keys by device, generation, key; then gamepads
+-- by device, generation
 abbrev pub pointerKey : CompositionPointerId → MapKey
 pointerKey p = mapKey 0 (p .device) (p .«device_generation») (p .contact)
 
@@ -41,6 +42,6 @@ keyLt a b = quadLt (parts a) (parts b)
 abbrev pub keySame : MapKey → MapKey → Bool
 keySame a b = quadSame (parts a) (parts b)
 
--- document 01, Release order: of that device id, value and generation
+-- RULES.md, Release order: of that device id, value and generation
 abbrev pub deviceSame : MapKey → InputDeviceId → Bool
 deviceSame k d = pairSame (k .device, k .generation) (d .value, d .generation)

@@ -27,7 +27,7 @@ module _ {E T : Type 0} (s : Shape E T) where
     abbrev pub removed : MapKey → T → T
     removed k t = packed s (remove key keySame k (entriesOf s t))
 
-    -- document 01, Port limits: an entry is taken exactly if its key is there already or a place is left
+    -- RULES.md, Port limits: an entry is taken exactly if its key is there already or a place is left
     abbrev pub accepts : E → T → Bool
     accepts e t = isSome (found (key e) t) || ltb (length (entriesOf s t)) (s .size)
 
@@ -35,6 +35,6 @@ module _ {E T : Type 0} (s : Shape E T) where
     abbrev pub inserted : E → T → T
     inserted e t = packed s (insert key keyLt e (entriesOf s t))
 
-    -- document 01, 42: whether map keys strictly rise
+    -- RULES.md, Damage: whether map keys strictly rise
     abbrev pub keysRise : T → Bool
     keysRise t = rising key keyLt (entriesOf s t)

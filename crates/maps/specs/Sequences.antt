@@ -14,7 +14,7 @@ use Rattle.maps.specs.Keys.{deviceKey}
 use Rattle.maps.specs.Tests.{keyPasses}
 use Rattle.maps.specs.MapTables.{accepts, inserted}
 
--- document 01, Port limits: 32 known devices
+-- RULES.md, Port limits: 32 known devices
 abbrev pub sequences : Shape DeviceSequence DeviceSequences
 sequences = record {
   size = 32;

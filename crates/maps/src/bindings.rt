@@ -1,4 +1,4 @@
-// The open presses of a router (document 01: presses), each with the panel that took it last: at most 128.
+// The open presses of a router (RULES.md, Presses), each with the panel that took it last: at most 128.
 use crate::keys::BindingKey;
 use crate::keys::CompositionPointerId;
 use crate::keys::MapKey;
@@ -103,8 +103,10 @@ impl Bindings {
     // The map with those entries of another that pass a test put after its own.
     fn extend(self, from: Bindings, test: EntryTest) -> Self
         requires { ⌜ self ≡ packed bindings (entriesOf bindings self) ⌝ }
-        requires { ⌜ length (entriesOf bindings self) + length (keep (bindingPasses test) (entriesOf bindings from)) ≤ 128 ⌝ }
-        ensures { λ r. ⌜ r ≡ packed bindings (entriesOf bindings self ++ keep (bindingPasses test) (entriesOf bindings from)) ⌝ }
+        requires { ⌜ length (entriesOf bindings self) + length (keep (bindingPasses test) (entriesOf bindings from))
+            ≤ 128 ⌝ }
+        ensures { λ r. ⌜ r ≡ packed bindings
+            (entriesOf bindings self ++ keep (bindingPasses test) (entriesOf bindings from)) ⌝ }
     {
         let mut next = self;
         let n = from.count();

@@ -104,8 +104,10 @@ impl PointerCaptures {
     // The map with those entries of another that pass a test put after its own.
     fn extend(self, from: PointerCaptures, test: EntryTest) -> Self
         requires { ⌜ self ≡ packed captures (entriesOf captures self) ⌝ }
-        requires { ⌜ length (entriesOf captures self) + length (keep (capturePasses test) (entriesOf captures from)) ≤ 32 ⌝ }
-        ensures { λ r. ⌜ r ≡ packed captures (entriesOf captures self ++ keep (capturePasses test) (entriesOf captures from)) ⌝ }
+        requires { ⌜ length (entriesOf captures self) + length (keep (capturePasses test) (entriesOf captures from))
+            ≤ 32 ⌝ }
+        ensures { λ r. ⌜ r ≡ packed captures
+            (entriesOf captures self ++ keep (capturePasses test) (entriesOf captures from)) ⌝ }
     {
         let mut next = self;
         let n = from.count();
@@ -183,7 +185,8 @@ impl PointerCaptures {
         }
     }
 
-    // The map with the entry, instead of the one with its pointer if there is one; refused where it is full and has none.
+    // The map with the entry, instead of the one with its pointer if there is one; refused where it is full and has
+    // none.
     pub fn insert(self, entry: Capture) -> CaptureInsertion
         ensures { λ r. ⌜ r ≡ insertionOf entry self ⌝ }
     {

@@ -103,8 +103,10 @@ impl DeviceSequences {
     // The map with those entries of another that pass a test put after its own.
     fn extend(self, from: DeviceSequences, test: KeyTest) -> Self
         requires { ⌜ self ≡ packed sequences (entriesOf sequences self) ⌝ }
-        requires { ⌜ length (entriesOf sequences self) + length (keep (sequencePasses test) (entriesOf sequences from)) ≤ 32 ⌝ }
-        ensures { λ r. ⌜ r ≡ packed sequences (entriesOf sequences self ++ keep (sequencePasses test) (entriesOf sequences from)) ⌝ }
+        requires { ⌜ length (entriesOf sequences self) + length (keep (sequencePasses test) (entriesOf sequences from))
+            ≤ 32 ⌝ }
+        ensures { λ r. ⌜ r ≡ packed sequences
+            (entriesOf sequences self ++ keep (sequencePasses test) (entriesOf sequences from)) ⌝ }
     {
         let mut next = self;
         let n = from.count();
@@ -182,7 +184,8 @@ impl DeviceSequences {
         }
     }
 
-    // The map with the entry, instead of the one with its device if there is one; refused where it is full and has none.
+    // The map with the entry, instead of the one with its device if there is one; refused where it is full and has
+    // none.
     pub fn insert(self, entry: DeviceSequence) -> SequenceInsertion
         ensures { λ r. ⌜ r ≡ insertionOf entry self ⌝ }
     {

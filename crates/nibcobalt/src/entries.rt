@@ -1,4 +1,5 @@
-// The exported functions. Each is a function of `host_calls` with its states lent; what stands behind the references at exit, and the answer, are that function's.
+// The exported functions. Each is a function of `host_calls` with its states lent; what stands behind the references at
+// exit, and the answer, are that function's.
 ghost use mathlib.Core.Path.{_≡_};
 ghost use Rattle.host_calls.specs.Fresh.{startedMemory};
 ghost use Rattle.host_calls.specs.Calls.{called};
@@ -12,7 +13,7 @@ use host_calls::fresh::start_counter;
 use host_calls::status::Status;
 use host_message::message::Message;
 
-// A fresh counter. A refusal's number is document 01's, and leaves the memory as it was.
+// A fresh counter. A refusal's number is one of REFUSALS.md, and leaves the memory as it was.
 #[no_mangle]
 pub extern "C" fn nibcobalt_start_counter(counter: &mut CounterMemory, start: &mut Start) -> Status
     ensures { λ r. ⌜ (now (counter .exit) ≡ startedMemory (now (counter .entry)) (now (start .entry)) .memory)
@@ -32,7 +33,8 @@ pub extern "C" fn nibcobalt_call(
     message: &mut Message,
     answer: &mut [u8],
 ) -> Status
-    ensures { λ r. ⌜ (now (counter .exit) ≡ called (now (counter .entry)) (now (message .entry)) (now (answer .entry)) .1 .memory)
+    ensures { λ r. ⌜ (now (counter .exit)
+        ≡ called (now (counter .entry)) (now (message .entry)) (now (answer .entry)) .1 .memory)
         × (now (message .exit) ≡ called (now (counter .entry)) (now (message .entry)) (now (answer .entry)) .1 .message)
         × (now (answer .exit) ≡ called (now (counter .entry)) (now (message .entry)) (now (answer .entry)) .0)
         × (r ≡ called (now (counter .entry)) (now (message .entry)) (now (answer .entry)) .1 .status) ⌝ }
@@ -50,8 +52,10 @@ pub extern "C" fn nibcobalt_route(
     message: &mut RouteMessage,
     answer: &mut [u8],
 ) -> Status
-    ensures { λ r. ⌜ (now (counter .exit) ≡ routeCalled (now (counter .entry)) (now (message .entry)) (now (answer .entry)) .1 .memory)
-        × (now (message .exit) ≡ routeCalled (now (counter .entry)) (now (message .entry)) (now (answer .entry)) .1 .message)
+    ensures { λ r. ⌜ (now (counter .exit)
+        ≡ routeCalled (now (counter .entry)) (now (message .entry)) (now (answer .entry)) .1 .memory)
+        × (now (message .exit) ≡ routeCalled (now (counter .entry)) (now (message .entry))
+        (now (answer .entry)) .1 .message)
         × (now (answer .exit) ≡ routeCalled (now (counter .entry)) (now (message .entry)) (now (answer .entry)) .0)
         × (r ≡ routeCalled (now (counter .entry)) (now (message .entry)) (now (answer .entry)) .1 .status) ⌝ }
 {

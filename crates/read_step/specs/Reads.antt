@@ -59,7 +59,7 @@ shownIf (Refused e) s = shown.Nothing
 abbrev pub readOf : Outcome → Shown → ReadStepped
 readOf o s = record { outcome = o; shown = shownIf o s; hits = packed hitTable [] }
 
--- document 01, Hit test: a buffer of 32 numbers is enough for every test, so a longer one is answered as one of 32
+-- RULES.md, Hit test: a buffer of 32 numbers is enough for every test, so a longer one is answered as one of 32
 abbrev pub hitsIf : Outcome → CompositionRegistry → GenerationalHandle → Point → HitNumbers
 hitsIf Accepted r view p = packed hitTable (hitNumbers r view p 32)
 hitsIf (Refused e) r view p = packed hitTable []
@@ -89,9 +89,11 @@ openStep t = readOf (routerDamage t) (shown.BindingCount (length (pressesOf t)))
 unfoldable pub readStep : CompositionRegistry → PlatformInputRouter → ReadCall → ReadStepped
 readStep r t (read.ViewWindow v) = readOf (viewWindow r v .outcome) (shown.Window (viewWindow r v .window))
 readStep r t (read.ViewMetrics v) = readOf (viewMetrics r v .outcome) (shown.Metrics (viewMetrics r v .metrics))
-readStep r t (read.ViewInputState v) = readOf (viewInputState r v .outcome) (shown.InputState (viewInputState r v .state))
+readStep r t (read.ViewInputState v) =
+    readOf (viewInputState r v .outcome) (shown.InputState (viewInputState r v .state))
 readStep r t (read.ViewPointerCaptures v) = readOf (viewPointerCaptures r v .outcome) (shown.Captures v)
-readStep r t (read.SurfaceDescriptor s) = readOf (surfaceDescriptor r s .outcome) (shown.Descriptor (surfaceDescriptor r s .descriptor))
+readStep r t (read.SurfaceDescriptor s) =
+    readOf (surfaceDescriptor r s .outcome) (shown.Descriptor (surfaceDescriptor r s .descriptor))
 readStep r t (read.ViewLayers v) = readOf (viewLayers r v .outcome) (shown.Layers v)
 readStep r t read.Traces = tracesStep r
 readStep r t read.Counts = countsStep r

@@ -24,7 +24,8 @@ pub struct Counts {
     pub surfaces: usize,
 }
 
-// An enum holds no array: the captures and layers of a view and the traces are those of the registry, which a read leaves as it was;
+// An enum holds no array: the captures and layers of a view and the traces are those of the registry, which a read
+// leaves as it was;
 // the hits stand beside.
 pub enum Shown {
     Nothing,

@@ -1,4 +1,4 @@
--- Document 01, What each call refuses: the numbers, and the order of refusals.
+-- RULES.md, Refusals: the numbers, and the order of refusals.
 use Prim.Native.Nat.{ℕ}
 use mathlib.Core.Bool.{Bool, true, false}
 use Rattle.handles.specs.declared.arena.SlotStatus.{SlotStatus}

@@ -1,4 +1,4 @@
--- Document 01, Layers: from lowest to highest z_order, ties by handle.
+-- RULES.md, Layers: from lowest to highest z_order, ties by handle.
 use mathlib.Core.Path.{refl}
 use mathlib.Core.Bool.{Bool, true, false, cond, not}
 use mathlib.Core.List.{List, map}
@@ -21,7 +21,7 @@ use Rattle.records.specs.declared.layers.LayerTest.{LayerTest}
 use Rattle.records.specs.declared.layers.LayerTest.the-variants.{Below, Above, Other}
 use Rattle.records.specs.Surfaces.{noSurface, surfaceStatus, descriptorOf}
 
--- document 01, Port limits: 16 panels a view
+-- RULES.md, Port limits: 16 panels a view
 abbrev pub layers : Shape GenerationalHandle Layers
 layers = record {
   size = 16;
@@ -67,7 +67,7 @@ layersWithout h t = packed layers (keep (λ at. not (sameHandle h at)) (entriesO
 unfoldable pub recordsOf : List SurfaceRecord → Layers → List SurfaceRecord
 recordsOf records t = pad 16 noSurface (map (λ h. getD records (h .index) noSurface) (entriesOf layers t))
 
--- document 01, 42: in layer order, and no panel twice
+-- RULES.md, Damage: in layer order, and no panel twice
 abbrev pub layersRise : List SurfaceRecord → Layers → Bool
 layersRise records t = rising itself (layerLt records) (entriesOf layers t)
 
@@ -76,6 +76,6 @@ isLive Live = true
 isLive Invalid = false
 isLive Stale = false
 
--- document 01, 42: a layer is a live panel, and of this view
+-- RULES.md, Damage: a layer is a live panel, and of this view
 abbrev pub isLayerOf : SurfaceTable → GenerationalHandle → GenerationalHandle → Bool
 isLayerOf t view at = cond (isLive (surfaceStatus t at)) (sameHandle (descriptorOf t at .view) view) false

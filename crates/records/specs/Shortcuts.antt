@@ -10,7 +10,7 @@ use Rattle.records.specs.declared.shortcut.ShortcutScope.the-variants.{V
 use Rattle.records.specs.declared.shortcut.SlotShortcut.{SlotShortcut}
 use Rattle.records.specs.declared.shortcut.Shortcuts.{Shortcuts}
 
--- document 01, Port limits: 256 shortcut registrations in all
+-- RULES.md, Port limits: 256 shortcut registrations in all
 abbrev pub shortcuts : Shape SlotShortcut Shortcuts
 shortcuts = record {
   size = 256;

@@ -20,7 +20,7 @@ use Rattle.records.specs.declared.surface.SurfaceRecord.{SurfaceRecord}
 use Rattle.records.specs.declared.surface.SurfaceTable.{SurfaceTable}
 use Rattle.records.specs.Errors.{statusRefusal}
 
--- document 01, Panels: policy Interactive or Exclusive
+-- RULES.md, Panels: policy Interactive or Exclusive
 abbrev pub isInteractive : SurfaceInputPolicy → Bool
 isInteractive Observe = false
 isInteractive Passthrough = false
@@ -40,7 +40,15 @@ noSurface =
         geometry = record {
           bounds = rect.None;
           clip = rect.None;
-          transform = record { «m11_q16» = pos 0; «m12_q16» = pos 0; «m21_q16» = pos 0; «m22_q16» = pos 0; «translate_x_milli» = pos 0; «translate_y_milli» = pos 0 };
+          transform =
+              record {
+                «m11_q16» = pos 0;
+                «m12_q16» = pos 0;
+                «m21_q16» = pos 0;
+                «m22_q16» = pos 0;
+                «translate_x_milli» = pos 0;
+                «translate_y_milli» = pos 0;
+              };
           «opacity_q16» = 0;
           «hit_test_enabled» = false;
         };
@@ -56,11 +64,29 @@ descriptorOf t h = surfaceAt t h .descriptor
 
 abbrev pub withGeometry : SurfaceGeometry → SurfaceRecord → SurfaceRecord
 withGeometry g s = let d = s .descriptor in
-    record { descriptor = record { view = d .view; kind = d .kind; «z_order» = d .«z_order»; input = d .input; «accepts_text» = d .«accepts_text»; geometry = g } }
+    record {
+      descriptor = record {
+        view = d .view;
+        kind = d .kind;
+        «z_order» = d .«z_order»;
+        input = d .input;
+        «accepts_text» = d .«accepts_text»;
+        geometry = g;
+      };
+    }
 
 abbrev pub withInput : SurfaceInputPolicy → SurfaceRecord → SurfaceRecord
 withInput p s = let d = s .descriptor in
-    record { descriptor = record { view = d .view; kind = d .kind; «z_order» = d .«z_order»; input = p; «accepts_text» = d .«accepts_text»; geometry = d .geometry } }
+    record {
+      descriptor = record {
+        view = d .view;
+        kind = d .kind;
+        «z_order» = d .«z_order»;
+        input = p;
+        «accepts_text» = d .«accepts_text»;
+        geometry = d .geometry;
+      };
+    }
 
 -- the table with another record for a panel, and with other slots
 abbrev pub withSurface : GenerationalHandle → SurfaceRecord → SurfaceTable → SurfaceTable
@@ -69,7 +95,7 @@ withSurface h s t = record { arena = t .arena; records = set (t .records) (h .in
 abbrev pub surfacesWith : Arena → SurfaceTable → SurfaceTable
 surfacesWith a t = record { arena = a; records = t .records }
 
--- document 01: 11/12
+-- RULES.md, Slots: 11/12
 abbrev pub surfaceStatus : SurfaceTable → GenerationalHandle → SlotStatus
 surfaceStatus t h = lookupOf (t .arena) h
 

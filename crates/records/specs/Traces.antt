@@ -13,19 +13,45 @@ use Rattle.records.specs.declared.trace.Deliveries.{Deliveries}
 use Rattle.records.specs.declared.trace.CompositionTrace.{CompositionTrace}
 use Rattle.records.specs.declared.trace.Traces.{Traces}
 
--- document 01, Arbitrate: at most 16 hits are handed in
+-- RULES.md, Arbitrate: at most 16 hits are handed in
 abbrev pub hits : Shape GenerationalHandle Hits
-hits = record { size = 16; blank = handleOf 0 0; make = λ l n. record { items = l; len = n }; all = λ t. t .items; len = λ t. t .len; all-make = λ l n. refl; len-make = λ l n. refl }
+hits =
+    record {
+      size = 16;
+      blank = handleOf 0 0;
+      make = λ l n. record { items = l; len = n };
+      all = λ t. t .items;
+      len = λ t. t .len;
+      all-make = λ l n. refl;
+      len-make = λ l n. refl;
+    }
 
 -- a view has at most 16 panels, so there are at most 16 deliveries
 abbrev pub deliveries : Shape InputDelivery Deliveries
-deliveries = record { size = 16; blank = record { surface = handleOf 0 0; observed = false }; make = λ l n. record { items = l; len = n }; all = λ t. t .items; len = λ t. t .len; all-make = λ l n. refl; len-make = λ l n. refl }
+deliveries =
+    record {
+      size = 16;
+      blank = record { surface = handleOf 0 0; observed = false };
+      make = λ l n. record { items = l; len = n };
+      all = λ t. t .items;
+      len = λ t. t .len;
+      all-make = λ l n. refl;
+      len-make = λ l n. refl;
+    }
 
--- document 01, Port limits: 32 traces
+-- RULES.md, Port limits: 32 traces
 abbrev pub traces : Shape CompositionTrace Traces
 traces = record {
   size = 32;
-  blank = record { revision = 0; view = handleOf 0 0; event = Keyboard; hits = packed hits []; deliveries = packed deliveries []; «consumed_by» = None };
+  blank =
+      record {
+        revision = 0;
+        view = handleOf 0 0;
+        event = Keyboard;
+        hits = packed hits [];
+        deliveries = packed deliveries [];
+        «consumed_by» = None;
+      };
   make = λ l n. record { items = l; len = n };
   all = λ t. t .items;
   len = λ t. t .len;

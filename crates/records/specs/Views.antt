@@ -27,7 +27,16 @@ use Rattle.records.specs.Layers.{layers}
 
 -- a view just created: no panel, focus, capture or composition
 abbrev pub freshView : GenerationalHandle → ViewRecord
-freshView window = record { window = window; metrics = defaultMetrics; surfaces = packed layers []; focus = None; «pointer_capture» = None; «pointer_captures» = packed captures []; ime = None }
+freshView window =
+    record {
+      window = window;
+      metrics = defaultMetrics;
+      surfaces = packed layers [];
+      focus = None;
+      «pointer_capture» = None;
+      «pointer_captures» = packed captures [];
+      ime = None;
+    }
 
 -- what a read past the table gives
 abbrev pub noView : ViewRecord
@@ -43,22 +52,76 @@ viewSlots t = cond (ltb (t .arena .used) 16) (t .arena .used) 16
 
 -- a record with one field changed
 abbrev pub withMetrics : ViewMetrics → ViewRecord → ViewRecord
-withMetrics m v = record { window = v .window; metrics = m; surfaces = v .surfaces; focus = v .focus; «pointer_capture» = v .«pointer_capture»; «pointer_captures» = v .«pointer_captures»; ime = v .ime }
+withMetrics m v =
+    record {
+      window = v .window;
+      metrics = m;
+      surfaces = v .surfaces;
+      focus = v .focus;
+      «pointer_capture» = v .«pointer_capture»;
+      «pointer_captures» = v .«pointer_captures»;
+      ime = v .ime;
+    }
 
 abbrev pub withLayers : Layers → ViewRecord → ViewRecord
-withLayers l v = record { window = v .window; metrics = v .metrics; surfaces = l; focus = v .focus; «pointer_capture» = v .«pointer_capture»; «pointer_captures» = v .«pointer_captures»; ime = v .ime }
+withLayers l v =
+    record {
+      window = v .window;
+      metrics = v .metrics;
+      surfaces = l;
+      focus = v .focus;
+      «pointer_capture» = v .«pointer_capture»;
+      «pointer_captures» = v .«pointer_captures»;
+      ime = v .ime;
+    }
 
 abbrev pub withFocus : OptionalHandle → ViewRecord → ViewRecord
-withFocus f v = record { window = v .window; metrics = v .metrics; surfaces = v .surfaces; focus = f; «pointer_capture» = v .«pointer_capture»; «pointer_captures» = v .«pointer_captures»; ime = v .ime }
+withFocus f v =
+    record {
+      window = v .window;
+      metrics = v .metrics;
+      surfaces = v .surfaces;
+      focus = f;
+      «pointer_capture» = v .«pointer_capture»;
+      «pointer_captures» = v .«pointer_captures»;
+      ime = v .ime;
+    }
 
 abbrev pub withPointerCapture : OptionalHandle → ViewRecord → ViewRecord
-withPointerCapture p v = record { window = v .window; metrics = v .metrics; surfaces = v .surfaces; focus = v .focus; «pointer_capture» = p; «pointer_captures» = v .«pointer_captures»; ime = v .ime }
+withPointerCapture p v =
+    record {
+      window = v .window;
+      metrics = v .metrics;
+      surfaces = v .surfaces;
+      focus = v .focus;
+      «pointer_capture» = p;
+      «pointer_captures» = v .«pointer_captures»;
+      ime = v .ime;
+    }
 
 abbrev pub withPointerCaptures : PointerCaptures → ViewRecord → ViewRecord
-withPointerCaptures c v = record { window = v .window; metrics = v .metrics; surfaces = v .surfaces; focus = v .focus; «pointer_capture» = v .«pointer_capture»; «pointer_captures» = c; ime = v .ime }
+withPointerCaptures c v =
+    record {
+      window = v .window;
+      metrics = v .metrics;
+      surfaces = v .surfaces;
+      focus = v .focus;
+      «pointer_capture» = v .«pointer_capture»;
+      «pointer_captures» = c;
+      ime = v .ime;
+    }
 
 abbrev pub withIme : OptionalHandle → ViewRecord → ViewRecord
-withIme i v = record { window = v .window; metrics = v .metrics; surfaces = v .surfaces; focus = v .focus; «pointer_capture» = v .«pointer_capture»; «pointer_captures» = v .«pointer_captures»; ime = i }
+withIme i v =
+    record {
+      window = v .window;
+      metrics = v .metrics;
+      surfaces = v .surfaces;
+      focus = v .focus;
+      «pointer_capture» = v .«pointer_capture»;
+      «pointer_captures» = v .«pointer_captures»;
+      ime = i;
+    }
 
 abbrev pub inputState : ViewRecord → ViewInputState
 inputState v = record { focused = v .focus; «pointer_capture» = v .«pointer_capture»; ime = v .ime }
@@ -70,7 +133,7 @@ withView h v t = record { arena = t .arena; records = set (t .records) (h .index
 abbrev pub viewsWith : Arena → ViewTable → ViewTable
 viewsWith a t = record { arena = a; records = t .records }
 
--- document 01: 8/9
+-- RULES.md, Slots: 8/9
 abbrev pub viewStatus : ViewTable → GenerationalHandle → SlotStatus
 viewStatus t h = lookupOf (t .arena) h
 

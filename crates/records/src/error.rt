@@ -3,7 +3,7 @@ ghost use mathlib.Core.Path.{_≡_};
 ghost use Rattle.records.specs.Errors.{errorNumber, numberOf, thenRefusal, refusalIf, statusRefusal, isAccepted};
 use handles::arena::SlotStatus;
 
-// The Rust's errors in their declared order, and the two added by document 01.
+// The Rust's errors in their declared order, and the two added by the port.
 pub enum CompositionError {
     InvalidConfig,
     InvalidOwner,
@@ -81,7 +81,7 @@ pub fn refuse_status(
     }
 }
 
-// Document 01's number of an error.
+// REFUSALS.md's number of an error.
 pub fn error_number(error: CompositionError) -> u64
     ensures { λ r. ⌜ r ≡ errorNumber error ⌝ }
 {
@@ -113,7 +113,7 @@ pub fn error_number(error: CompositionError) -> u64
     }
 }
 
-// Document 01's number of an answer: 0 is accepted.
+// REFUSALS.md's number of an answer: 0 is accepted.
 pub fn number(outcome: Outcome) -> u64
     ensures { λ r. ⌜ r ≡ numberOf outcome ⌝ }
 {

@@ -127,8 +127,10 @@ impl Layers {
     // The layers with those of another list that pass a test put after them.
     fn extend(self, from: Layers, records: [SurfaceRecord; 64], test: LayerTest) -> Self
         requires { ⌜ self ≡ packed layers (entriesOf layers self) ⌝ }
-        requires { ⌜ length (entriesOf layers self) + length (keep (layerPasses records test) (entriesOf layers from)) ≤ 16 ⌝ }
-        ensures { λ r. ⌜ r ≡ packed layers (entriesOf layers self ++ keep (layerPasses records test) (entriesOf layers from)) ⌝ }
+        requires { ⌜ length (entriesOf layers self) + length (keep (layerPasses records test) (entriesOf layers from))
+            ≤ 16 ⌝ }
+        ensures { λ r. ⌜ r ≡ packed layers
+            (entriesOf layers self ++ keep (layerPasses records test) (entriesOf layers from)) ⌝ }
     {
         let mut next = self;
         let n = from.count();
@@ -168,7 +170,8 @@ impl Layers {
         self.retain(records, LayerTest::Other(surface))
     }
 
-    // The record of each layer, by its place, and blanks after them: so a loop over the layers reads a small array of its own,
+    // The record of each layer, by its place, and blanks after them: so a loop over the layers reads a small array of
+    // its own,
     // and hands on no table.
     pub fn records_of(self, records: [SurfaceRecord; 64]) -> [SurfaceRecord; 16]
         ensures { λ r. ⌜ r ≡ recordsOf records self ⌝ }

@@ -1,4 +1,5 @@
-// What the registry stores: panels and their layers, views, shortcuts and traces, each with what reads and changes it; and the refusals.
+// What the registry stores: panels and their layers, views, shortcuts and traces, each with what reads and changes it;
+// and the refusals.
 pub mod error;
 pub mod layers;
 pub mod shortcut;

@@ -1,4 +1,4 @@
--- Document 01, What a refusal has written: "21 comes after the change". The change of each call, before the revision
+-- RULES.md, What a refusal has written: "21 comes after the change". The change of each call, before the revision
 -- rises.
 use Rattle.handles.specs.Slots.{released}
 use Rattle.handles.specs.declared.GenerationalHandle.{GenerationalHandle}

@@ -1,4 +1,4 @@
--- Document 01, What a refusal has written: what is left of presses, captures, focus and layers, in the paper's terms.
+-- RULES.md, What a refusal has written: what is left of presses, captures, focus and layers, in the terms of the rules.
 use Prim.Native.Nat.{ℕ, suc}
 use mathlib.Core.Bool.{Bool, false, cond, not, _&&_, _||_}
 use mathlib.Core.List.{List, [], _∷_, reverse}

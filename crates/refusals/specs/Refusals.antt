@@ -1,4 +1,4 @@
--- Document 01, What a refusal has written, claimed of `step` for every counter, every call and every refusal.
+-- RULES.md, What a refusal has written, claimed of `step` for every counter, every call and every refusal.
 use mathlib.Core.Path.{_≡_}
 use mathlib.Core.Bool.{true}
 use Rattle.handles.specs.declared.GenerationalHandle.{GenerationalHandle}
@@ -25,7 +25,7 @@ abbrev pub writtenWith : Counter → Call → Lists → PlatformInputError → W
 writtenWith c call l e = writtenBy c call l (routerErrorNumber e)
 
 pub record StepRefusals : Type 0 where
-  -- a refused call leaves registry and router as they came, but for what its case of document 01's paragraph has
+  -- a refused call leaves registry and router as they came, but for what its case of RULES.md has
   -- written
   pub leaves : (c : Counter) (call : Call) (l : Lists) (e : PlatformInputError) → IsRefused c call l e
       → stepped c call l .counter ≡ afterRefusal c (writtenWith c call l e)

@@ -1,4 +1,4 @@
--- Document 01, What a refusal has written: its cases, what each of them leaves, and which of them a refusal is.
+-- RULES.md, What a refusal has written: its cases, what each of them leaves, and which of them a refusal is.
 use Prim.Native.Nat.{ℕ}
 use mathlib.Core.Bool.{Bool, true, false, cond, not, _&&_, _||_}
 use mathlib.Core.Option.{Option, none, some}
@@ -23,7 +23,7 @@ use Rattle.counter.specs.declared.step.Counter.{Counter}
 use Rattle.refusals.specs.Changes.{panelChange, inputChange, deviceChange, shortcutChange, closeChange}
 use Rattle.refusals.specs.Left.{recordedBy, dropPresses, isPressBy, isPressIn, closedOwner, isKindBefore, inView, inEveryView, withoutDevice, lostView, panelOut}
 
--- the cases of document 01's paragraph
+-- the cases of RULES.md, What a refusal has written
 pub data Written : Type 0 where
   -- the refused call leaves registry and router as they came
   nothing : Written

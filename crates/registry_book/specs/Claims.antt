@@ -1,4 +1,4 @@
--- Document 01, Book, claimed of every call on the registry that is accepted: the book's captures and views after it are
+-- RULES.md, Book, claimed of every call on the registry that is accepted: the book's captures and views after it are
 -- the registry's.
 -- The tests are those of the registry's maps (`MapTests`).
 use Prim.Native.Nat.{ℕ}

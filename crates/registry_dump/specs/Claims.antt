@@ -11,8 +11,15 @@ use Rattle.registry_dump.specs.Registry.{registryNumbers}
 abbrev pub firstRegistry : CompositionRegistry
 firstRegistry =
     freshRegistry (handleOf 0 1) 1
-    (record { «max_windows» = 8; «max_views» = 16; «max_surfaces» = 64; «max_surfaces_per_view» = 16; «max_trace_entries» = 32 }) 0 1
+    (record {
+      «max_windows» = 8;
+      «max_views» = 16;
+      «max_surfaces» = 64;
+      «max_surfaces_per_view» = 16;
+      «max_trace_entries» = 32;
+    }) 0 1
 
 pub record RegistryClaims : Type 0 where
-  pub first-dump : map dumpedNumber (registryNumbers firstRegistry) ≡ 0 ∷ 1 ∷ 1 ∷ 8 ∷ 16 ∷ 64 ∷ 16 ∷ 32 ∷ 1 ∷ 0 ∷ 0 ∷ 0 ∷ 0 ∷ 0 ∷ 0 ∷ 0 ∷ 0 ∷ 0 ∷ 0 ∷ 0 ∷ []
+  pub first-dump : map dumpedNumber (registryNumbers firstRegistry)
+      ≡ 0 ∷ 1 ∷ 1 ∷ 8 ∷ 16 ∷ 64 ∷ 16 ∷ 32 ∷ 1 ∷ 0 ∷ 0 ∷ 0 ∷ 0 ∷ 0 ∷ 0 ∷ 0 ∷ 0 ∷ 0 ∷ 0 ∷ 0 ∷ []
   pub first-digest : dumpDigest (registryNumbers firstRegistry) ≡ 7360464826253285904

@@ -26,7 +26,9 @@ scopeNumber Session = 2
 
 -- a registration: mask, scope, priority
 abbrev pub registrationNumbers : SlotShortcut → List Number
-registrationNumbers e = plain (e .registration .«class_mask») ∷ plain (scopeNumber (e .registration .scope)) ∷ signed (e .registration .priority) ∷ []
+registrationNumbers e =
+    plain (e .registration .«class_mask») ∷ plain (scopeNumber (e .registration .scope))
+    ∷ signed (e .registration .priority) ∷ []
 
 -- whether a registration is of the panel in a slot
 abbrev pub isOfSlot : ℕ → SlotShortcut → Bool

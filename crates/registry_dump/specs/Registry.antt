@@ -15,11 +15,14 @@ use Rattle.registry_dump.specs.Traces.{tracesNumbers}
 
 -- the limits: windows, views, panels, panels a view, traces
 abbrev pub limitsNumbers : CompositionLimits → List Number
-limitsNumbers l = plain (l .«max_windows») ∷ plain (l .«max_views») ∷ plain (l .«max_surfaces») ∷ plain (l .«max_surfaces_per_view») ∷ plain (l .«max_trace_entries») ∷ []
+limitsNumbers l =
+    plain (l .«max_windows») ∷ plain (l .«max_views») ∷ plain (l .«max_surfaces») ∷ plain (l .«max_surfaces_per_view»)
+    ∷ plain (l .«max_trace_entries») ∷ []
 
 -- the arenas of windows, views and panels
 abbrev pub tablesNumbers : Arena → ViewTable → SurfaceTable → Shortcuts → List Number
-tablesNumbers windows views surfaces shortcuts = windowsNumbers windows ++ (viewsNumbers views ++ panelsNumbers surfaces shortcuts)
+tablesNumbers windows views surfaces shortcuts =
+    windowsNumbers windows ++ (viewsNumbers views ++ panelsNumbers surfaces shortcuts)
 
 -- the registry: session H, epoch, the 5 limits, first slot generation, revision; the arenas; the traces
 abbrev pub registryNumbers : CompositionRegistry → List Number
@@ -35,4 +38,5 @@ registryNumbers r =
 abbrev pub countsNumbers : CompositionRegistry → List Number
 countsNumbers r =
     handleNumbers (r .session)
-    ++ (plain (r .«session_epoch») ∷ plain (r .revision) ∷ plain (r .windows .live) ∷ plain (r .views .arena .live) ∷ plain (r .surfaces .arena .live) ∷ [])
+    ++ (plain (r .«session_epoch») ∷ plain (r .revision) ∷ plain (r .windows .live) ∷ plain (r .views .arena .live)
+    ∷ plain (r .surfaces .arena .live) ∷ [])

@@ -41,7 +41,8 @@ eventFields (E.SystemShortcut mask) = fieldsOf 10 noPointer None mask
 
 -- kind, K, O, mask
 abbrev pub fieldsNumbers : EventFields → List Number
-fieldsNumbers e = plain (e .kind) ∷ (pointerNumbers (e .pointer) ++ (optionalNumbers (e .target) ++ (plain (e .«class_mask») ∷ [])))
+fieldsNumbers e =
+    plain (e .kind) ∷ (pointerNumbers (e .pointer) ++ (optionalNumbers (e .target) ++ (plain (e .«class_mask») ∷ [])))
 
 -- the hits handed in: n, n × H
 abbrev pub hitsNumbers : Hits → List Number

@@ -18,7 +18,8 @@ use handles::arena::used_places;
 
 // A slot without its value.
 pub fn take_slot(out: &mut [u8], sink: Sink, slot: Slot) -> Sink
-    ensures { λ r. ⌜ _≡_ {A = List ℕ × Sink} (now (out .exit), r) (numbersTaken (slotHead slot) (now (out .entry), sink)) ⌝ }
+    ensures { λ r. ⌜ _≡_ {A = List ℕ × Sink} (now (out .exit), r)
+        (numbersTaken (slotHead slot) (now (out .entry), sink)) ⌝ }
 {
     let next = take_u32(out, sink, slot.generation);
     take_flag(out, next, slot.filled)
@@ -36,7 +37,8 @@ fn freed_places(arena: Arena) -> usize
 }
 
 fn take_free(out: &mut [u8], sink: Sink, arena: Arena) -> Sink
-    ensures { λ r. ⌜ _≡_ {A = List ℕ × Sink} (now (out .exit), r) (numbersTaken (freeNumbers arena) (now (out .entry), sink)) ⌝ }
+    ensures { λ r. ⌜ _≡_ {A = List ℕ × Sink} (now (out .exit), r)
+        (numbersTaken (freeNumbers arena) (now (out .entry), sink)) ⌝ }
 {
     let n = freed_places(arena);
     let mut next = take_count(out, sink, n);
@@ -51,14 +53,16 @@ fn take_free(out: &mut [u8], sink: Sink, arena: Arena) -> Sink
 
 // What stands behind the slots: the free list, the one used next last, and the live count.
 pub fn take_arena_end(out: &mut [u8], sink: Sink, arena: Arena) -> Sink
-    ensures { λ r. ⌜ _≡_ {A = List ℕ × Sink} (now (out .exit), r) (numbersTaken (arenaEnd arena) (now (out .entry), sink)) ⌝ }
+    ensures { λ r. ⌜ _≡_ {A = List ℕ × Sink} (now (out .exit), r)
+        (numbersTaken (arenaEnd arena) (now (out .entry), sink)) ⌝ }
 {
     let next = take_free(out, sink, arena);
     take_count(out, next, arena.live)
 }
 
 fn take_window_slots(out: &mut [u8], sink: Sink, windows: Arena) -> Sink
-    ensures { λ r. ⌜ _≡_ {A = List ℕ × Sink} (now (out .exit), r) (numbersTaken (usedSlots (λ i. []) windows) (now (out .entry), sink)) ⌝ }
+    ensures { λ r. ⌜ _≡_ {A = List ℕ × Sink} (now (out .exit), r)
+        (numbersTaken (usedSlots (λ i. []) windows) (now (out .entry), sink)) ⌝ }
 {
     let slots = windows.slots;
     let n = used_places(windows);
@@ -72,7 +76,8 @@ fn take_window_slots(out: &mut [u8], sink: Sink, windows: Arena) -> Sink
 }
 
 pub fn take_windows(out: &mut [u8], sink: Sink, windows: Arena) -> Sink
-    ensures { λ r. ⌜ _≡_ {A = List ℕ × Sink} (now (out .exit), r) (numbersTaken (windowsNumbers windows) (now (out .entry), sink)) ⌝ }
+    ensures { λ r. ⌜ _≡_ {A = List ℕ × Sink} (now (out .exit), r)
+        (numbersTaken (windowsNumbers windows) (now (out .entry), sink)) ⌝ }
 {
     let next = take_window_slots(out, sink, windows);
     take_arena_end(out, next, windows)

@@ -41,7 +41,8 @@ fn scope_number(scope: ShortcutScope) -> u64
 }
 
 fn take_registration(out: &mut [u8], sink: Sink, entry: SlotShortcut) -> Sink
-    ensures { λ r. ⌜ _≡_ {A = List ℕ × Sink} (now (out .exit), r) (numbersTaken (registrationNumbers entry) (now (out .entry), sink)) ⌝ }
+    ensures { λ r. ⌜ _≡_ {A = List ℕ × Sink} (now (out .exit), r)
+        (numbersTaken (registrationNumbers entry) (now (out .entry), sink)) ⌝ }
 {
     let given = entry.registration;
     let scope = given.scope;
@@ -73,7 +74,8 @@ fn count_registrations(list: Shortcuts, slot: usize) -> usize
 }
 
 fn take_if_of(out: &mut [u8], sink: Sink, entry: SlotShortcut, slot: usize) -> Sink
-    ensures { λ r. ⌜ _≡_ {A = List ℕ × Sink} (now (out .exit), r) (numbersTaken (cond (isOfSlot slot entry) (registrationNumbers entry) []) (now (out .entry), sink)) ⌝ }
+    ensures { λ r. ⌜ _≡_ {A = List ℕ × Sink} (now (out .exit), r)
+        (numbersTaken (cond (isOfSlot slot entry) (registrationNumbers entry) []) (now (out .entry), sink)) ⌝ }
 {
     if is_of(entry, slot) {
         return take_registration(out, sink, entry);
@@ -83,7 +85,8 @@ fn take_if_of(out: &mut [u8], sink: Sink, entry: SlotShortcut, slot: usize) -> S
 
 // The registrations of the panel in a slot, in the order given.
 fn take_registrations(out: &mut [u8], sink: Sink, shortcuts: Shortcuts, slot: usize) -> Sink
-    ensures { λ r. ⌜ _≡_ {A = List ℕ × Sink} (now (out .exit), r) (numbersTaken (registrationsNumbers slot shortcuts) (now (out .entry), sink)) ⌝ }
+    ensures { λ r. ⌜ _≡_ {A = List ℕ × Sink} (now (out .exit), r)
+        (numbersTaken (registrationsNumbers slot shortcuts) (now (out .entry), sink)) ⌝ }
 {
     let found = count_registrations(shortcuts, slot);
     let n = shortcuts.count();
@@ -104,7 +107,8 @@ fn take_panel(
     shortcuts: Shortcuts,
     slot: usize,
 ) -> Sink
-    ensures { λ r. ⌜ _≡_ {A = List ℕ × Sink} (now (out .exit), r) (numbersTaken (panelNumbers slot «record» shortcuts) (now (out .entry), sink)) ⌝ }
+    ensures { λ r. ⌜ _≡_ {A = List ℕ × Sink} (now (out .exit), r)
+        (numbersTaken (panelNumbers slot «record» shortcuts) (now (out .entry), sink)) ⌝ }
 {
     let next = take_descriptor(out, sink, record.descriptor);
     take_registrations(out, next, shortcuts, slot)
@@ -118,7 +122,8 @@ fn take_panel_slot(
     shortcuts: Shortcuts,
     i: usize,
 ) -> Sink
-    ensures { λ r. ⌜ _≡_ {A = List ℕ × Sink} (now (out .exit), r) (numbersTaken (slotNumbers (panelNumbers i «record» shortcuts) slot) (now (out .entry), sink)) ⌝ }
+    ensures { λ r. ⌜ _≡_ {A = List ℕ × Sink} (now (out .exit), r)
+        (numbersTaken (slotNumbers (panelNumbers i «record» shortcuts) slot) (now (out .entry), sink)) ⌝ }
 {
     let next = take_slot(out, sink, slot);
     if slot.filled {
@@ -133,7 +138,9 @@ fn take_panel_slots(
     surfaces: SurfaceTable,
     shortcuts: Shortcuts,
 ) -> Sink
-    ensures { λ r. ⌜ _≡_ {A = List ℕ × Sink} (now (out .exit), r) (numbersTaken (usedSlots (λ i. panelNumbers i (getD (surfaces .records) i noSurface) shortcuts) (surfaces .arena)) (now (out .entry), sink)) ⌝ }
+    ensures { λ r. ⌜ _≡_ {A = List ℕ × Sink} (now (out .exit), r)
+        (numbersTaken (usedSlots (λ i. panelNumbers i (getD (surfaces .records) i noSurface) shortcuts)
+        (surfaces .arena)) (now (out .entry), sink)) ⌝ }
 {
     let arena = surfaces.arena;
     let slots = arena.slots;
@@ -156,7 +163,8 @@ fn take_panel_slots(
 }
 
 pub fn take_panels(out: &mut [u8], sink: Sink, surfaces: SurfaceTable, shortcuts: Shortcuts) -> Sink
-    ensures { λ r. ⌜ _≡_ {A = List ℕ × Sink} (now (out .exit), r) (numbersTaken (panelsNumbers surfaces shortcuts) (now (out .entry), sink)) ⌝ }
+    ensures { λ r. ⌜ _≡_ {A = List ℕ × Sink} (now (out .exit), r)
+        (numbersTaken (panelsNumbers surfaces shortcuts) (now (out .entry), sink)) ⌝ }
 {
     let next = take_panel_slots(out, sink, surfaces, shortcuts);
     take_arena_end(out, next, surfaces.arena)

@@ -27,7 +27,8 @@ use records::surface::SurfaceTable;
 use records::view::ViewTable;
 
 fn take_limits(out: &mut [u8], sink: Sink, limits: CompositionLimits) -> Sink
-    ensures { λ r. ⌜ _≡_ {A = List ℕ × Sink} (now (out .exit), r) (numbersTaken (limitsNumbers limits) (now (out .entry), sink)) ⌝ }
+    ensures { λ r. ⌜ _≡_ {A = List ℕ × Sink} (now (out .exit), r)
+        (numbersTaken (limitsNumbers limits) (now (out .entry), sink)) ⌝ }
 {
     let a = take_plain(out, sink, limits.max_windows);
     let b = take_plain(out, a, limits.max_views);
@@ -37,7 +38,8 @@ fn take_limits(out: &mut [u8], sink: Sink, limits: CompositionLimits) -> Sink
 }
 
 fn take_owner(out: &mut [u8], sink: Sink, session: GenerationalHandle, epoch: u64) -> Sink
-    ensures { λ r. ⌜ _≡_ {A = List ℕ × Sink} (now (out .exit), r) (numbersTaken (handleNumbers session ++ (plain epoch ∷ [])) (now (out .entry), sink)) ⌝ }
+    ensures { λ r. ⌜ _≡_ {A = List ℕ × Sink} (now (out .exit), r)
+        (numbersTaken (handleNumbers session ++ (plain epoch ∷ [])) (now (out .entry), sink)) ⌝ }
 {
     let next = take_handle(out, sink, session);
     take_plain(out, next, epoch)
@@ -50,7 +52,9 @@ fn take_head(
     first_generation: u32,
     revision: u64,
 ) -> Sink
-    ensures { λ r. ⌜ _≡_ {A = List ℕ × Sink} (now (out .exit), r) (numbersTaken (limitsNumbers limits ++ (plain «first_generation» ∷ plain revision ∷ [])) (now (out .entry), sink)) ⌝ }
+    ensures { λ r. ⌜ _≡_ {A = List ℕ × Sink} (now (out .exit), r)
+        (numbersTaken (limitsNumbers limits ++ (plain «first_generation» ∷ plain revision ∷ []))
+        (now (out .entry), sink)) ⌝ }
 {
     let a = take_limits(out, sink, limits);
     let b = take_u32(out, a, first_generation);
@@ -65,7 +69,8 @@ fn take_tables(
     surfaces: SurfaceTable,
     shortcuts: Shortcuts,
 ) -> Sink
-    ensures { λ r. ⌜ _≡_ {A = List ℕ × Sink} (now (out .exit), r) (numbersTaken (tablesNumbers windows views surfaces shortcuts) (now (out .entry), sink)) ⌝ }
+    ensures { λ r. ⌜ _≡_ {A = List ℕ × Sink} (now (out .exit), r)
+        (numbersTaken (tablesNumbers windows views surfaces shortcuts) (now (out .entry), sink)) ⌝ }
 {
     let a = take_windows(out, sink, windows);
     let b = take_views(out, a, views);
@@ -74,7 +79,8 @@ fn take_tables(
 
 // All numbers of a registry.
 pub fn take_registry(out: &mut [u8], sink: Sink, registry: CompositionRegistry) -> Sink
-    ensures { λ r. ⌜ _≡_ {A = List ℕ × Sink} (now (out .exit), r) (numbersTaken (registryNumbers registry) (now (out .entry), sink)) ⌝ }
+    ensures { λ r. ⌜ _≡_ {A = List ℕ × Sink} (now (out .exit), r)
+        (numbersTaken (registryNumbers registry) (now (out .entry), sink)) ⌝ }
 {
     let a = take_owner(out, sink, registry.session, registry.session_epoch);
     let b = take_head(
@@ -96,7 +102,8 @@ pub fn take_registry(out: &mut [u8], sink: Sink, registry: CompositionRegistry) 
 }
 
 fn take_live(out: &mut [u8], sink: Sink, windows: usize, views: usize, surfaces: usize) -> Sink
-    ensures { λ r. ⌜ _≡_ {A = List ℕ × Sink} (now (out .exit), r) (numbersTaken (plain windows ∷ plain views ∷ plain surfaces ∷ []) (now (out .entry), sink)) ⌝ }
+    ensures { λ r. ⌜ _≡_ {A = List ℕ × Sink} (now (out .exit), r)
+        (numbersTaken (plain windows ∷ plain views ∷ plain surfaces ∷ []) (now (out .entry), sink)) ⌝ }
 {
     let a = take_count(out, sink, windows);
     let b = take_count(out, a, views);
@@ -105,7 +112,8 @@ fn take_live(out: &mut [u8], sink: Sink, windows: usize, views: usize, surfaces:
 
 // What `counts` shows.
 pub fn take_counts(out: &mut [u8], sink: Sink, registry: CompositionRegistry) -> Sink
-    ensures { λ r. ⌜ _≡_ {A = List ℕ × Sink} (now (out .exit), r) (numbersTaken (countsNumbers registry) (now (out .entry), sink)) ⌝ }
+    ensures { λ r. ⌜ _≡_ {A = List ℕ × Sink} (now (out .exit), r)
+        (numbersTaken (countsNumbers registry) (now (out .entry), sink)) ⌝ }
 {
     let a = take_owner(out, sink, registry.session, registry.session_epoch);
     let b = take_plain(out, a, registry.revision);

@@ -24,7 +24,8 @@ use records::trace::InputDelivery;
 use records::trace::Traces;
 
 fn take_fields(out: &mut [u8], sink: Sink, fields: EventFields) -> Sink
-    ensures { λ r. ⌜ _≡_ {A = List ℕ × Sink} (now (out .exit), r) (numbersTaken (fieldsNumbers fields) (now (out .entry), sink)) ⌝ }
+    ensures { λ r. ⌜ _≡_ {A = List ℕ × Sink} (now (out .exit), r)
+        (numbersTaken (fieldsNumbers fields) (now (out .entry), sink)) ⌝ }
 {
     let target = fields.target;
     let a = take_plain(out, sink, fields.kind);
@@ -45,7 +46,8 @@ fn count_hits(list: Hits) -> usize
 }
 
 fn take_hits(out: &mut [u8], sink: Sink, hits: Hits) -> Sink
-    ensures { λ r. ⌜ _≡_ {A = List ℕ × Sink} (now (out .exit), r) (numbersTaken (hitsNumbers hits) (now (out .entry), sink)) ⌝ }
+    ensures { λ r. ⌜ _≡_ {A = List ℕ × Sink} (now (out .exit), r)
+        (numbersTaken (hitsNumbers hits) (now (out .entry), sink)) ⌝ }
 {
     let n = count_hits(hits);
     let mut next = take_count(out, sink, n);
@@ -69,14 +71,16 @@ fn count_deliveries(list: Deliveries) -> usize
 }
 
 fn take_delivery(out: &mut [u8], sink: Sink, delivery: InputDelivery) -> Sink
-    ensures { λ r. ⌜ _≡_ {A = List ℕ × Sink} (now (out .exit), r) (numbersTaken (deliveryNumbers delivery) (now (out .entry), sink)) ⌝ }
+    ensures { λ r. ⌜ _≡_ {A = List ℕ × Sink} (now (out .exit), r)
+        (numbersTaken (deliveryNumbers delivery) (now (out .entry), sink)) ⌝ }
 {
     let next = take_handle(out, sink, delivery.surface);
     take_flag(out, next, delivery.observed)
 }
 
 pub fn take_deliveries(out: &mut [u8], sink: Sink, deliveries: Deliveries) -> Sink
-    ensures { λ r. ⌜ _≡_ {A = List ℕ × Sink} (now (out .exit), r) (numbersTaken (deliveriesNumbers deliveries) (now (out .entry), sink)) ⌝ }
+    ensures { λ r. ⌜ _≡_ {A = List ℕ × Sink} (now (out .exit), r)
+        (numbersTaken (deliveriesNumbers deliveries) (now (out .entry), sink)) ⌝ }
 {
     let n = count_deliveries(deliveries);
     let mut next = take_count(out, sink, n);
@@ -90,7 +94,8 @@ pub fn take_deliveries(out: &mut [u8], sink: Sink, deliveries: Deliveries) -> Si
 }
 
 fn take_trace(out: &mut [u8], sink: Sink, trace: CompositionTrace) -> Sink
-    ensures { λ r. ⌜ _≡_ {A = List ℕ × Sink} (now (out .exit), r) (numbersTaken (traceNumbers trace) (now (out .entry), sink)) ⌝ }
+    ensures { λ r. ⌜ _≡_ {A = List ℕ × Sink} (now (out .exit), r)
+        (numbersTaken (traceNumbers trace) (now (out .entry), sink)) ⌝ }
 {
     let event = trace.event;
     let consumer = trace.consumed_by;
@@ -114,7 +119,8 @@ fn count_traces(list: Traces) -> usize
 
 // The traces, oldest first.
 pub fn take_traces(out: &mut [u8], sink: Sink, traces: Traces) -> Sink
-    ensures { λ r. ⌜ _≡_ {A = List ℕ × Sink} (now (out .exit), r) (numbersTaken (tracesNumbers traces) (now (out .entry), sink)) ⌝ }
+    ensures { λ r. ⌜ _≡_ {A = List ℕ × Sink} (now (out .exit), r)
+        (numbersTaken (tracesNumbers traces) (now (out .entry), sink)) ⌝ }
 {
     let n = count_traces(traces);
     let mut next = take_count(out, sink, n);

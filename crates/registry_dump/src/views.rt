@@ -33,7 +33,8 @@ use records::view::record_at;
 
 // The captured pointers with their panels, by rising key.
 pub fn take_captures(out: &mut [u8], sink: Sink, captures: PointerCaptures) -> Sink
-    ensures { λ r. ⌜ _≡_ {A = List ℕ × Sink} (now (out .exit), r) (numbersTaken (capturesNumbers captures) (now (out .entry), sink)) ⌝ }
+    ensures { λ r. ⌜ _≡_ {A = List ℕ × Sink} (now (out .exit), r)
+        (numbersTaken (capturesNumbers captures) (now (out .entry), sink)) ⌝ }
 {
     let n = captures.count();
     let mut next = take_count(out, sink, n);
@@ -52,7 +53,8 @@ fn take_described(
     layer: GenerationalHandle,
     descriptor: SurfaceDescriptor,
 ) -> Sink
-    ensures { λ r. ⌜ _≡_ {A = List ℕ × Sink} (now (out .exit), r) (numbersTaken (handleNumbers layer ++ descriptorNumbers descriptor) (now (out .entry), sink)) ⌝ }
+    ensures { λ r. ⌜ _≡_ {A = List ℕ × Sink} (now (out .exit), r)
+        (numbersTaken (handleNumbers layer ++ descriptorNumbers descriptor) (now (out .entry), sink)) ⌝ }
 {
     let next = take_handle(out, sink, layer);
     take_descriptor(out, next, descriptor)
@@ -60,7 +62,8 @@ fn take_described(
 
 // The layers with their descriptors, lowest first.
 pub fn take_view_layers(out: &mut [u8], sink: Sink, layers: Layers, surfaces: SurfaceTable) -> Sink
-    ensures { λ r. ⌜ _≡_ {A = List ℕ × Sink} (now (out .exit), r) (numbersTaken (viewLayersNumbers layers surfaces) (now (out .entry), sink)) ⌝ }
+    ensures { λ r. ⌜ _≡_ {A = List ℕ × Sink} (now (out .exit), r)
+        (numbersTaken (viewLayersNumbers layers surfaces) (now (out .entry), sink)) ⌝ }
 {
     let n = layers.count();
     let mut next = take_count(out, sink, n);
@@ -75,7 +78,8 @@ pub fn take_view_layers(out: &mut [u8], sink: Sink, layers: Layers, surfaces: Su
 }
 
 fn take_view(out: &mut [u8], sink: Sink, view: ViewRecord) -> Sink
-    ensures { λ r. ⌜ _≡_ {A = List ℕ × Sink} (now (out .exit), r) (numbersTaken (viewNumbers view) (now (out .entry), sink)) ⌝ }
+    ensures { λ r. ⌜ _≡_ {A = List ℕ × Sink} (now (out .exit), r)
+        (numbersTaken (viewNumbers view) (now (out .entry), sink)) ⌝ }
 {
     let focus = view.focus;
     let single = view.pointer_capture;
@@ -90,7 +94,8 @@ fn take_view(out: &mut [u8], sink: Sink, view: ViewRecord) -> Sink
 }
 
 fn take_view_slot(out: &mut [u8], sink: Sink, slot: Slot, view: ViewRecord) -> Sink
-    ensures { λ r. ⌜ _≡_ {A = List ℕ × Sink} (now (out .exit), r) (numbersTaken (slotNumbers (viewNumbers view) slot) (now (out .entry), sink)) ⌝ }
+    ensures { λ r. ⌜ _≡_ {A = List ℕ × Sink} (now (out .exit), r)
+        (numbersTaken (slotNumbers (viewNumbers view) slot) (now (out .entry), sink)) ⌝ }
 {
     let next = take_slot(out, sink, slot);
     if slot.filled {
@@ -100,7 +105,9 @@ fn take_view_slot(out: &mut [u8], sink: Sink, slot: Slot, view: ViewRecord) -> S
 }
 
 fn take_view_slots(out: &mut [u8], sink: Sink, views: ViewTable) -> Sink
-    ensures { λ r. ⌜ _≡_ {A = List ℕ × Sink} (now (out .exit), r) (numbersTaken (usedSlots (λ i. viewNumbers (getD (views .records) i noView)) (views .arena)) (now (out .entry), sink)) ⌝ }
+    ensures { λ r. ⌜ _≡_ {A = List ℕ × Sink} (now (out .exit), r)
+        (numbersTaken (usedSlots (λ i. viewNumbers (getD (views .records) i noView)) (views .arena))
+        (now (out .entry), sink)) ⌝ }
 {
     let arena = views.arena;
     let slots = arena.slots;
@@ -116,7 +123,8 @@ fn take_view_slots(out: &mut [u8], sink: Sink, views: ViewTable) -> Sink
 }
 
 pub fn take_views(out: &mut [u8], sink: Sink, views: ViewTable) -> Sink
-    ensures { λ r. ⌜ _≡_ {A = List ℕ × Sink} (now (out .exit), r) (numbersTaken (viewsNumbers views) (now (out .entry), sink)) ⌝ }
+    ensures { λ r. ⌜ _≡_ {A = List ℕ × Sink} (now (out .exit), r)
+        (numbersTaken (viewsNumbers views) (now (out .entry), sink)) ⌝ }
 {
     let next = take_view_slots(out, sink, views);
     take_arena_end(out, next, views.arena)

@@ -24,18 +24,46 @@ use Rattle.registry_step.specs.declared.steps.RegistryStepped.{RegistryS
 
 -- what a call does not answer is none
 abbrev pub ofChanged : Changed → RegistryStepped
-ofChanged c = record { outcome = c .outcome; handle = handle.None; metrics = metrics.None; «input_state» = state.None; registry = c .registry }
+ofChanged c =
+    record {
+      outcome = c .outcome;
+      handle = handle.None;
+      metrics = metrics.None;
+      «input_state» = state.None;
+      registry = c .registry;
+    }
 
 abbrev pub ofCreated : Created → RegistryStepped
-ofCreated c = record { outcome = c .outcome; handle = c .handle; metrics = metrics.None; «input_state» = state.None; registry = c .registry }
+ofCreated c =
+    record {
+      outcome = c .outcome;
+      handle = c .handle;
+      metrics = metrics.None;
+      «input_state» = state.None;
+      registry = c .registry;
+    }
 
 abbrev pub ofMetrics : MetricsUpdated → RegistryStepped
-ofMetrics u = record { outcome = u .outcome; handle = handle.None; metrics = u .metrics; «input_state» = state.None; registry = u .registry }
+ofMetrics u =
+    record {
+      outcome = u .outcome;
+      handle = handle.None;
+      metrics = u .metrics;
+      «input_state» = state.None;
+      registry = u .registry;
+    }
 
 abbrev pub ofSuspended : Suspended → RegistryStepped
-ofSuspended s = record { outcome = s .outcome; handle = handle.None; metrics = metrics.None; «input_state» = s .released; registry = s .registry }
+ofSuspended s =
+    record {
+      outcome = s .outcome;
+      handle = handle.None;
+      metrics = metrics.None;
+      «input_state» = s .released;
+      registry = s .registry;
+    }
 
--- Document 01, Windows and views; Panels: attach, geometry, policy
+-- RULES.md, Windows and views; Panels: attach, geometry, policy
 unfoldable pub panelStep : CompositionRegistry → PanelCall → RegistryStepped
 panelStep r panel.CreateWindow = ofCreated (createWindow r)
 panelStep r (panel.CloseWindow window) = ofChanged (closeWindow r window)
@@ -43,10 +71,12 @@ panelStep r (panel.CreateView window) = ofCreated (createView r window)
 panelStep r (panel.UpdateViewMetrics a) = ofMetrics (updateViewMetrics r (a .view) (a .update) (a .revision))
 panelStep r (panel.CloseView view) = ofChanged (closeView r view)
 panelStep r (panel.AttachSurface descriptor) = ofCreated (attachSurface r descriptor)
-panelStep r (panel.UpdateSurfaceGeometry a) = ofChanged (updateSurfaceGeometry r (a .surface) (a .geometry) (a .revision))
-panelStep r (panel.UpdateSurfaceInputPolicy a) = ofChanged (updateSurfaceInputPolicy r (a .surface) (a .input) (a .revision))
+panelStep r (panel.UpdateSurfaceGeometry a) =
+    ofChanged (updateSurfaceGeometry r (a .surface) (a .geometry) (a .revision))
+panelStep r (panel.UpdateSurfaceInputPolicy a) =
+    ofChanged (updateSurfaceInputPolicy r (a .surface) (a .input) (a .revision))
 
--- Document 01, Focus, Capture, Release of a pointer, Begin IME, End IME, Suspend; a capture without a pointer is that of PRIMARY
+-- RULES.md, Focus, captures, compositions; Suspend: a capture without a pointer is that of PRIMARY
 unfoldable pub inputStep : CompositionRegistry → InputCall → RegistryStepped
 inputStep r (input.SetFocus a) = ofChanged (setFocus r (a .view) (a .surface) (a .revision))
 inputStep r (input.CapturePointer a) = ofChanged (capturePointerFor r primary (a .handle) (a .revision))
@@ -57,8 +87,11 @@ inputStep r (input.BeginIme a) = ofChanged (beginIme r (a .handle) (a .revision)
 inputStep r (input.EndIme a) = ofChanged (endIme r (a .handle) (a .revision))
 inputStep r (input.SuspendViewInput a) = ofSuspended (suspendViewInput r (a .handle) (a .revision))
 
--- Document 01, Panels: shortcuts; one registration or none, or a plain mask, is a list of at most one
+-- RULES.md, Shortcuts; one registration or none, or a plain mask, is a list of at most one
 unfoldable pub shortcutStep : CompositionRegistry → ShortcutCall → Registrations → RegistryStepped
 shortcutStep r (shortcut.RegisterSet a) l = ofChanged (registerSurfaceSystemShortcutSet r (a .handle) l (a .revision))
-shortcutStep r (shortcut.RegisterOne a) l = ofChanged (registerSurfaceSystemShortcutSet r (a .surface) (registrationList (a .registration)) (a .revision))
-shortcutStep r (shortcut.SetMask a) l = ofChanged (registerSurfaceSystemShortcutSet r (a .surface) (registrationList (ofMask (a .«class_mask»))) (a .revision))
+shortcutStep r (shortcut.RegisterOne a) l =
+    ofChanged (registerSurfaceSystemShortcutSet r (a .surface) (registrationList (a .registration)) (a .revision))
+shortcutStep r (shortcut.SetMask a) l =
+    ofChanged (registerSurfaceSystemShortcutSet r (a .surface) (registrationList (ofMask (a .«class_mask»)))
+    (a .revision))

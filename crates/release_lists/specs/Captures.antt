@@ -5,7 +5,7 @@ use Rattle.handles.specs.Handles.{handleOf}
 use Rattle.maps.specs.declared.captures.Capture.{Capture}
 use Rattle.release_lists.specs.declared.captures.CaptureList.{CaptureList}
 
--- document 01, Port limits: up to 32 captures in each of 16 views
+-- RULES.md, Port limits: up to 32 captures in each of 16 views
 abbrev pub captureList : Shape Capture CaptureList
 captureList = record {
   size = 512;

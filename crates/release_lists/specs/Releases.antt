@@ -1,4 +1,4 @@
--- Document 01, Release order: what is listed, and in which order.
+-- RULES.md, Release order: what is listed, and in which order.
 use Prim.Native.Nat.{_<_}
 use mathlib.Core.Path.{_≡_, refl}
 use mathlib.Core.Bool.{Bool, true, cond, not, _&&_}
@@ -20,7 +20,8 @@ use Rattle.release_lists.specs.declared.releases.Releases.{Releases}
 abbrev pub releases : Shape Binding Releases
 releases = record {
   size = 640;
-  blank = record { key = Pointer (record { device = 0; «device_generation» = 0; contact = 0 }); surface = handleOf 0 0 };
+  blank =
+      record { key = Pointer (record { device = 0; «device_generation» = 0; contact = 0 }); surface = handleOf 0 0 };
   make = λ l n. record { items = l; len = n };
   all = λ t. t .items;
   len = λ t. t .len;

@@ -85,7 +85,8 @@ impl Releases {
         next
     }
 
-    // The list with presses put after its own. Each is stored in its place, since the list by value would be copied once for each.
+    // The list with presses put after its own. Each is stored in its place, since the list by value would be copied
+    // once for each.
     fn extend(self, from: Bindings) -> Self
         requires { ⌜ self ≡ packed releases (entriesOf releases self) ⌝ }
         requires { ⌜ length (entriesOf releases self) + length (entriesOf bindings from) ≤ 640 ⌝ }

@@ -77,7 +77,9 @@ fn write_answer(
 // Answers each line that a chunk completes: the loop itself does nothing but write.
 fn answer_chunk(reading: Reading, chunk: &[u8], line: &mut [u8], out: &mut [u8]) -> Reading
     requires { ⌜ 524288 ≤ length (now out) ⌝ }
-    ensures { λ r. ⌜ _≡_ {A = Held} (heldOf (r .session) (now (line .exit)) (r .len) (now (out .exit))) (heldIn (chunkServed (servingOf (reading .session) (now (line .entry)) (reading .len) (now (out .entry)) []) (now (chunk .entry)))) ⌝ }
+    ensures { λ r. ⌜ _≡_ {A = Held} (heldOf (r .session) (now (line .exit)) (r .len) (now (out .exit)))
+        (heldIn (chunkServed (servingOf (reading .session) (now (line .entry)) (reading .len) (now (out .entry)) [])
+        (now (chunk .entry)))) ⌝ }
 {
     let mut session = reading.session;
     let mut len = reading.len;
@@ -128,7 +130,8 @@ fn first_reading() -> Reading {
     }
 }
 
-// Serves the input to its end. A proved loop has to end, so this one counts its turns down from a number that no run uses up.
+// Serves the input to its end. A proved loop has to end, so this one counts its turns down from a number that no run
+// uses up.
 // A last line that no line feed ends is a line too.
 fn serve(line: &mut [u8], out: &mut [u8])
     requires { ⌜ 524288 ≤ length (now out) ⌝ }
@@ -149,7 +152,8 @@ fn serve(line: &mut [u8], out: &mut [u8])
     }
 }
 
-// Every line fits the buffer: no answer is longer than 419,862 bytes (`line_lengths::line_length_claims`), and `answer_bytes`
+// Every line fits the buffer: no answer is longer than 419,862 bytes (`line_lengths::line_length_claims`), and
+// `answer_bytes`
 // requires the room.
 fn main() {
     if os::arg_count() > 1 {

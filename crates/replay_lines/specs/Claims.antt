@@ -11,7 +11,8 @@ use Rattle.replay_lines.specs.Turns.{Serving, servingOf, chunkServed, en
 abbrev pub together : List (List ℕ) → List ℕ
 together chunks = foldr (λ (a b : List ℕ). a ++ b) [] chunks
 
--- with a line buffer that holds more than a line may have, no cutting into chunks matters: each line is answered once and
+-- with a line buffer that holds more than a line may have, no cutting into chunks matters: each line is answered once
+-- and
 -- in its order, the last one too, and nothing else is
 pub record ReplayClaims : Type 0 where
   pub every-cutting : (s : Session) (line out written : List ℕ) (chunks : List (List ℕ)) → 4097 ≤ length line

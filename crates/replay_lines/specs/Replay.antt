@@ -30,7 +30,8 @@ lineReplayed r l =
     let a = lineAnswered (r .session) l (r .out) in
     record { session = a .1 .session; out = a .0; written = r .written ++ take (a .1 .at) (a .0) }
 
--- the lines of bytes behind the start of a line: each line feed (10) ends one, and what stands behind the last is one too
+-- the lines of bytes behind the start of a line: each line feed (10) ends one, and what stands behind the last is one
+-- too
 unfoldable pub linesFrom : List ℕ → List ℕ → List (List ℕ)
 linesFrom p [] = p ∷ []
 linesFrom p (b ∷ l) = cond (eqb b 10) (p ∷ linesFrom [] l) (linesFrom (p ++ (b ∷ [])) l)

@@ -46,7 +46,8 @@ askedText calls shown c (Step call) lists =
 
 unfoldable pub calledText : Session → Line → List ℕ
 calledText s line =
-    askedText (nextCall (s .calls)) (s .«are_digests_shown») (s .counter) (callOf (line .verb) (line .fields)) (listsBeside (line .verb) (line .fields))
+    askedText (nextCall (s .calls)) (s .«are_digests_shown») (s .counter) (callOf (line .verb) (line .fields))
+    (listsBeside (line .verb) (line .fields))
 
 -- the text that the bytes of a line are answered with: none where the line is skipped
 unfoldable pub answerText : Session → List ℕ → List ℕ

@@ -16,7 +16,8 @@ pub record Serving : Type 0 where
 
 -- the parts of what is served as one
 abbrev pub servingOf : Session → List ℕ → ℕ → List ℕ → List ℕ → Serving
-servingOf s line len out written = record { replay = record { session = s; out = out; written = written }; line = (line, len) }
+servingOf s line len out written =
+    record { replay = record { session = s; out = out; written = written }; line = (line, len) }
 
 -- what a program holds between two turns: all but what was written
 pub record Held : Type 0 where

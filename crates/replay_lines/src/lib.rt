@@ -1,5 +1,7 @@
-// The lines of a script's input, which arrives in chunks: each call of `next_answer` takes bytes up to the next line feed or
-// the chunk's end and, where a line ends, answers it into a lent buffer. What is written and read is left to the caller.
+// The lines of a script's input, which arrives in chunks: each call of `next_answer` takes bytes up to the next line
+// feed or
+// the chunk's end and, where a line ends, answers it into a lent buffer. What is written and read is left to the
+// caller.
 use line_input::is_line_skipped;
 use line_input::parse_line;
 use line_input::take_line;
@@ -19,7 +21,8 @@ ghost use Rattle.replay_lines.specs.Texts.{answerText};
 ghost use Rattle.replay_lines.specs.Turns.{servingOf, IsTurn};
 ghost use Rattle.replay_lines.specs.Claims.{ReplayClaims};
 
-// After a turn: the session, how many bytes of the next line are there, where the chunk goes on, and how many bytes of an
+// After a turn: the session, how many bytes of the next line are there, where the chunk goes on, and how many bytes of
+// an
 // answer stand at the front of the buffer; whether a line ended, and how many bytes of it are in the line's buffer.
 pub struct Turn {
     pub session: Session,
@@ -42,12 +45,15 @@ pub fn first_session() -> Session
     }
 }
 
-// Answers the line of which `len` bytes stand in the buffer, if it asks for an answer. The answers' buffer holds the longest
+// Answers the line of which `len` bytes stand in the buffer, if it asks for an answer. The answers' buffer holds the
+// longest
 // line, so that the whole text of the answer stands at its front.
 pub fn answer_bytes(session: Session, line: &[u8], len: usize, out: &mut [u8]) -> Answered
     requires { ⌜ 524288 ≤ length (now out) ⌝ }
-    ensures { λ r. ⌜ _≡_ {A = List ℕ × Answered} (now (out .exit), r) (lineAnswered session (take len (now (line .entry))) (now (out .entry))) ⌝ }
-    ensures { λ r. ⌜ _≡_ {A = List ℕ × ℕ} (now (out .exit), r .at) (textThen (answerText session (take len (now (line .entry)))) (now (out .entry))) ⌝ }
+    ensures { λ r. ⌜ _≡_ {A = List ℕ × Answered} (now (out .exit), r)
+        (lineAnswered session (take len (now (line .entry))) (now (out .entry))) ⌝ }
+    ensures { λ r. ⌜ _≡_ {A = List ℕ × ℕ} (now (out .exit), r .at)
+        (textThen (answerText session (take len (now (line .entry)))) (now (out .entry))) ⌝ }
 {
     if is_line_skipped(line, len) {
         return Answered { session, at: 0 };
@@ -65,7 +71,9 @@ pub fn next_answer(
     out: &mut [u8],
 ) -> Turn
     requires { ⌜ 524288 ≤ length (now out) ⌝ }
-    ensures { λ r. ⌜ IsTurn (servingOf session (now (line .entry)) len (now (out .entry))) (servingOf (r .session) (now (line .exit)) (r .len) (now (out .exit))) (take (r .at) (now (out .exit))) (now (chunk .entry)) from ⌝ }
+    ensures { λ r. ⌜ IsTurn (servingOf session (now (line .entry)) len (now (out .entry)))
+        (servingOf (r .session) (now (line .exit)) (r .len) (now (out .exit))) (take (r .at) (now (out .exit)))
+        (now (chunk .entry)) from ⌝ }
     ensures { λ r. ⌜ r .next ≡ nextPlace (now (chunk .entry)) from ⌝ }
 {
     let taken = take_line(line, len, chunk, from);

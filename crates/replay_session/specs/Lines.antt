@@ -10,4 +10,5 @@ use Rattle.replay_session.specs.Sessions.{nextCall, answeredAs}
 
 unfoldable pub answeredLine : Session → Line → List ℕ → List ℕ × Answered
 answeredLine s line buf =
-    answeredAs (nextCall (s .calls)) (s .«are_digests_shown») (s .counter) (callOf (line .verb) (line .fields)) (listsBeside (line .verb) (line .fields)) buf
+    answeredAs (nextCall (s .calls)) (s .«are_digests_shown») (s .counter) (callOf (line .verb) (line .fields))
+    (listsBeside (line .verb) (line .fields)) buf

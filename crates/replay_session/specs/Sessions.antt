@@ -1,4 +1,5 @@
--- The replay format: one line answered, and the session after it. The call count goes on; every line that is not skipped is a call.
+-- The replay format: one line answered, and the session after it. The call count goes on; every line that is not
+-- skipped is a call.
 use Prim.Native.Nat.{ℕ, _+_}
 use mathlib.Core.Bool.{Bool, cond}
 use mathlib.Core.List.{List}
@@ -36,7 +37,8 @@ answeredStep calls shown c call lists buf =
 
 -- an answer that shows its number alone
 unfoldable pub answeredPlain : ℕ → Bool → ℕ → Counter → List ℕ → List ℕ × Answered
-answeredPlain calls shown number c buf = finished calls shown c (putAll (plainPieces calls number (c .registry .revision)) (buf, 0))
+answeredPlain calls shown number c buf =
+    finished calls shown c (putAll (plainPieces calls number (c .registry .revision)) (buf, 0))
 
 unfoldable pub answeredNoCall : ℕ → Bool → Counter → List ℕ → List ℕ × Answered
 answeredNoCall calls shown c buf = finished calls shown c (putAll (noCallPieces calls (c .registry .revision)) (buf, 0))
@@ -50,7 +52,8 @@ answeredSession calls shown c (Digest on) buf = answeredPlain calls on 0 c buf
 answeredSession calls shown c (New start) buf = answeredStart calls shown (startedRegistry c start) buf
 answeredSession calls shown c (Router limit) buf = answeredStart calls shown (startedRouter c limit) buf
 answeredSession calls shown c State buf = finished calls shown c (stateTaken calls (c .registry) buf)
-answeredSession calls shown c RouterState buf = finished calls shown c (routerStateTaken calls (c .registry .revision) (c .router) buf)
+answeredSession calls shown c RouterState buf =
+    finished calls shown c (routerStateTaken calls (c .registry .revision) (c .router) buf)
 
 unfoldable pub answeredAs : ℕ → Bool → Counter → ScriptCall → Lists → List ℕ → List ℕ × Answered
 answeredAs calls shown c NoCall lists buf = answeredNoCall calls shown c buf

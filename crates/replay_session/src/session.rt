@@ -42,7 +42,8 @@ fn finish(
     are_digests_shown: bool,
     counter: Counter,
 ) -> Answered
-    ensures { λ r. ⌜ _≡_ {A = List ℕ × Answered} (now (out .exit), r) (finished calls «are_digests_shown» counter (now (out .entry), at)) ⌝ }
+    ensures { λ r. ⌜ _≡_ {A = List ℕ × Answered} (now (out .exit), r)
+        (finished calls «are_digests_shown» counter (now (out .entry), at)) ⌝ }
 {
     let end = put_end(out, at, counter, are_digests_shown);
     let session = Session {
@@ -61,7 +62,8 @@ fn answer_step(
     call: Call,
     lists: Lists,
 ) -> Answered
-    ensures { λ r. ⌜ _≡_ {A = List ℕ × Answered} (now (out .exit), r) (answeredStep calls «are_digests_shown» counter call lists (now (out .entry))) ⌝ }
+    ensures { λ r. ⌜ _≡_ {A = List ℕ × Answered} (now (out .exit), r)
+        (answeredStep calls «are_digests_shown» counter call lists (now (out .entry))) ⌝ }
 {
     let stepped = step(counter, call, lists);
     let at = put_answer(out, calls, call, stepped.answer, stepped.counter);
@@ -76,14 +78,16 @@ fn answer_plain(
     number: u64,
     counter: Counter,
 ) -> Answered
-    ensures { λ r. ⌜ _≡_ {A = List ℕ × Answered} (now (out .exit), r) (answeredPlain calls «are_digests_shown» number counter (now (out .entry))) ⌝ }
+    ensures { λ r. ⌜ _≡_ {A = List ℕ × Answered} (now (out .exit), r)
+        (answeredPlain calls «are_digests_shown» number counter (now (out .entry))) ⌝ }
 {
     let at = put_plain(out, calls, number, counter.registry.revision);
     finish(out, at, calls, are_digests_shown, counter)
 }
 
 fn answer_started(out: &mut [u8], calls: u64, are_digests_shown: bool, started: Started) -> Answered
-    ensures { λ r. ⌜ _≡_ {A = List ℕ × Answered} (now (out .exit), r) (answeredStart calls «are_digests_shown» started (now (out .entry))) ⌝ }
+    ensures { λ r. ⌜ _≡_ {A = List ℕ × Answered} (now (out .exit), r)
+        (answeredStart calls «are_digests_shown» started (now (out .entry))) ⌝ }
 {
     answer_plain(
         out,
@@ -95,14 +99,16 @@ fn answer_started(out: &mut [u8], calls: u64, are_digests_shown: bool, started: 
 }
 
 fn answer_no_call(out: &mut [u8], calls: u64, are_digests_shown: bool, counter: Counter) -> Answered
-    ensures { λ r. ⌜ _≡_ {A = List ℕ × Answered} (now (out .exit), r) (answeredNoCall calls «are_digests_shown» counter (now (out .entry))) ⌝ }
+    ensures { λ r. ⌜ _≡_ {A = List ℕ × Answered} (now (out .exit), r)
+        (answeredNoCall calls «are_digests_shown» counter (now (out .entry))) ⌝ }
 {
     let at = put_no_call(out, calls, counter.registry.revision);
     finish(out, at, calls, are_digests_shown, counter)
 }
 
 fn answer_state(out: &mut [u8], calls: u64, are_digests_shown: bool, counter: Counter) -> Answered
-    ensures { λ r. ⌜ _≡_ {A = List ℕ × Answered} (now (out .exit), r) (answeredSession calls «are_digests_shown» counter State (now (out .entry))) ⌝ }
+    ensures { λ r. ⌜ _≡_ {A = List ℕ × Answered} (now (out .exit), r)
+        (answeredSession calls «are_digests_shown» counter State (now (out .entry))) ⌝ }
 {
     let at = put_state(out, calls, counter.registry);
     finish(out, at, calls, are_digests_shown, counter)
@@ -114,7 +120,8 @@ fn answer_router_state(
     are_digests_shown: bool,
     counter: Counter,
 ) -> Answered
-    ensures { λ r. ⌜ _≡_ {A = List ℕ × Answered} (now (out .exit), r) (answeredSession calls «are_digests_shown» counter RouterState (now (out .entry))) ⌝ }
+    ensures { λ r. ⌜ _≡_ {A = List ℕ × Answered} (now (out .exit), r)
+        (answeredSession calls «are_digests_shown» counter RouterState (now (out .entry))) ⌝ }
 {
     let at = put_router_state(out, calls, counter.registry.revision, counter.router);
     finish(out, at, calls, are_digests_shown, counter)
@@ -127,7 +134,8 @@ fn answer_session(
     counter: Counter,
     asked: SessionCall,
 ) -> Answered
-    ensures { λ r. ⌜ _≡_ {A = List ℕ × Answered} (now (out .exit), r) (answeredSession calls «are_digests_shown» counter asked (now (out .entry))) ⌝ }
+    ensures { λ r. ⌜ _≡_ {A = List ℕ × Answered} (now (out .exit), r)
+        (answeredSession calls «are_digests_shown» counter asked (now (out .entry))) ⌝ }
 {
     match asked {
         SessionCall::Digest(on) => answer_plain(out, calls, on, 0, counter),
@@ -157,7 +165,8 @@ pub fn answer_call(
     asked: ScriptCall,
     lists: Lists,
 ) -> Answered
-    ensures { λ r. ⌜ _≡_ {A = List ℕ × Answered} (now (out .exit), r) (answeredAs calls «are_digests_shown» counter asked lists (now (out .entry))) ⌝ }
+    ensures { λ r. ⌜ _≡_ {A = List ℕ × Answered} (now (out .exit), r)
+        (answeredAs calls «are_digests_shown» counter asked lists (now (out .entry))) ⌝ }
 {
     match asked {
         ScriptCall::NoCall => answer_no_call(out, calls, are_digests_shown, counter),

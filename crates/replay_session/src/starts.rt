@@ -1,4 +1,5 @@
-// The starts of a registry and of a router in a script: an accepted one replaces its own of the two, and a refused one leaves both.
+// The starts of a registry and of a router in a script: an accepted one replaces its own of the two, and a refused one
+// leaves both.
 ghost use mathlib.Core.Path.{_≡_};
 ghost use Rattle.replay_session.specs.Starts.{registryKept, startedRegistry, routerKept, startedRouter, firstCounter};
 use composition_state::registry::CompositionLimits;

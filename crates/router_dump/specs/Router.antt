@@ -21,4 +21,5 @@ abbrev pub routerNumbers : PlatformInputRouter → List Number
 routerNumbers r =
     plain (r .«max_active_bindings»)
     ∷ plain (r .«last_timestamp_micros»)
-    ∷ (sequencesNumbers (r .«device_sequences») ++ (pressesNumbers 0 (r .bindings) ++ (pressesNumbers 1 (r .bindings) ++ pressesNumbers 2 (r .bindings))))
+    ∷ (sequencesNumbers (r .«device_sequences»)
+    ++ (pressesNumbers 0 (r .bindings) ++ (pressesNumbers 1 (r .bindings) ++ pressesNumbers 2 (r .bindings))))

@@ -25,14 +25,16 @@ use maps::keys::InputDeviceId;
 use maps::keys::binding_key;
 
 pub fn take_device(out: &mut [u8], sink: Sink, device: InputDeviceId) -> Sink
-    ensures { λ r. ⌜ _≡_ {A = List ℕ × Sink} (now (out .exit), r) (numbersTaken (deviceNumbers device) (now (out .entry), sink)) ⌝ }
+    ensures { λ r. ⌜ _≡_ {A = List ℕ × Sink} (now (out .exit), r)
+        (numbersTaken (deviceNumbers device) (now (out .entry), sink)) ⌝ }
 {
     let next = take_plain(out, sink, device.value);
     take_u32(out, next, device.generation)
 }
 
 fn take_device_key(out: &mut [u8], sink: Sink, key: DeviceKey) -> Sink
-    ensures { λ r. ⌜ _≡_ {A = List ℕ × Sink} (now (out .exit), r) (numbersTaken (deviceKeyNumbers key) (now (out .entry), sink)) ⌝ }
+    ensures { λ r. ⌜ _≡_ {A = List ℕ × Sink} (now (out .exit), r)
+        (numbersTaken (deviceKeyNumbers key) (now (out .entry), sink)) ⌝ }
 {
     let device = key.device;
     let next = take_device(out, sink, device);
@@ -40,7 +42,8 @@ fn take_device_key(out: &mut [u8], sink: Sink, key: DeviceKey) -> Sink
 }
 
 fn take_key(out: &mut [u8], sink: Sink, key: BindingKey) -> Sink
-    ensures { λ r. ⌜ _≡_ {A = List ℕ × Sink} (now (out .exit), r) (numbersTaken (keyNumbers key) (now (out .entry), sink)) ⌝ }
+    ensures { λ r. ⌜ _≡_ {A = List ℕ × Sink} (now (out .exit), r)
+        (numbersTaken (keyNumbers key) (now (out .entry), sink)) ⌝ }
 {
     match key {
         BindingKey::Pointer(p) => take_pointer(out, sink, p),
@@ -50,7 +53,8 @@ fn take_key(out: &mut [u8], sink: Sink, key: BindingKey) -> Sink
 }
 
 pub fn take_press(out: &mut [u8], sink: Sink, press: Binding) -> Sink
-    ensures { λ r. ⌜ _≡_ {A = List ℕ × Sink} (now (out .exit), r) (numbersTaken (pressNumbers press) (now (out .entry), sink)) ⌝ }
+    ensures { λ r. ⌜ _≡_ {A = List ℕ × Sink} (now (out .exit), r)
+        (numbersTaken (pressNumbers press) (now (out .entry), sink)) ⌝ }
 {
     let key = press.key;
     let surface = press.surface;
@@ -81,7 +85,8 @@ fn count_presses(list: Bindings, kind: u32) -> usize
 }
 
 fn take_if_of_kind(out: &mut [u8], sink: Sink, press: Binding, kind: u32) -> Sink
-    ensures { λ r. ⌜ _≡_ {A = List ℕ × Sink} (now (out .exit), r) (numbersTaken (cond (isOfKind kind press) (pressNumbers press) []) (now (out .entry), sink)) ⌝ }
+    ensures { λ r. ⌜ _≡_ {A = List ℕ × Sink} (now (out .exit), r)
+        (numbersTaken (cond (isOfKind kind press) (pressNumbers press) []) (now (out .entry), sink)) ⌝ }
 {
     if is_of_kind(press, kind) {
         return take_press(out, sink, press);
@@ -91,7 +96,8 @@ fn take_if_of_kind(out: &mut [u8], sink: Sink, press: Binding, kind: u32) -> Sin
 
 // The presses of a kind, by rising key.
 pub fn take_presses(out: &mut [u8], sink: Sink, list: Bindings, kind: u32) -> Sink
-    ensures { λ r. ⌜ _≡_ {A = List ℕ × Sink} (now (out .exit), r) (numbersTaken (pressesNumbers kind list) (now (out .entry), sink)) ⌝ }
+    ensures { λ r. ⌜ _≡_ {A = List ℕ × Sink} (now (out .exit), r)
+        (numbersTaken (pressesNumbers kind list) (now (out .entry), sink)) ⌝ }
 {
     let found = count_presses(list, kind);
     let n = list.count();

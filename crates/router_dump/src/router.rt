@@ -18,7 +18,8 @@ use maps::sequences::DeviceSequence;
 use maps::sequences::DeviceSequences;
 
 fn take_sequence(out: &mut [u8], sink: Sink, entry: DeviceSequence) -> Sink
-    ensures { λ r. ⌜ _≡_ {A = List ℕ × Sink} (now (out .exit), r) (numbersTaken (sequenceNumbers entry) (now (out .entry), sink)) ⌝ }
+    ensures { λ r. ⌜ _≡_ {A = List ℕ × Sink} (now (out .exit), r)
+        (numbersTaken (sequenceNumbers entry) (now (out .entry), sink)) ⌝ }
 {
     let device = entry.device;
     let next = take_device(out, sink, device);
@@ -27,7 +28,8 @@ fn take_sequence(out: &mut [u8], sink: Sink, entry: DeviceSequence) -> Sink
 
 // The known devices, by rising key.
 fn take_sequences(out: &mut [u8], sink: Sink, list: DeviceSequences) -> Sink
-    ensures { λ r. ⌜ _≡_ {A = List ℕ × Sink} (now (out .exit), r) (numbersTaken (sequencesNumbers list) (now (out .entry), sink)) ⌝ }
+    ensures { λ r. ⌜ _≡_ {A = List ℕ × Sink} (now (out .exit), r)
+        (numbersTaken (sequencesNumbers list) (now (out .entry), sink)) ⌝ }
 {
     let n = list.count();
     let mut next = take_count(out, sink, n);
@@ -42,7 +44,8 @@ fn take_sequences(out: &mut [u8], sink: Sink, list: DeviceSequences) -> Sink
 
 // All numbers of a router. The kinds of presses are pointers 0, keys 1, gamepads 2.
 pub fn take_router(out: &mut [u8], sink: Sink, router: PlatformInputRouter) -> Sink
-    ensures { λ r. ⌜ _≡_ {A = List ℕ × Sink} (now (out .exit), r) (numbersTaken (routerNumbers router) (now (out .entry), sink)) ⌝ }
+    ensures { λ r. ⌜ _≡_ {A = List ℕ × Sink} (now (out .exit), r)
+        (numbersTaken (routerNumbers router) (now (out .entry), sink)) ⌝ }
 {
     let sequences = router.device_sequences;
     let presses = router.bindings;

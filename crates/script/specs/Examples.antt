@@ -31,7 +31,8 @@ IsNone t = lineOf (bytes t) .verb ≡ Unknown
 pub record LineExamples : Type 0 where
   pub one-number : Calls "digest 1" (Session session.Digest) (plus 1 ∷ [])
   pub no-number : Calls "router_state" (Session session.RouterState) []
-  pub negative : Calls "inverse_point 65536 0 0 65536 -5 -2147483648 7 8" (Step (Read read.InversePoint)) (plus 65536 ∷ plus 0 ∷ plus 0 ∷ plus 65536 ∷ minus 5 ∷ minus 2147483648 ∷ plus 7 ∷ plus 8 ∷ [])
+  pub negative : Calls "inverse_point 65536 0 0 65536 -5 -2147483648 7 8" (Step (Read read.InversePoint))
+      (plus 65536 ∷ plus 0 ∷ plus 0 ∷ plus 65536 ∷ minus 5 ∷ minus 2147483648 ∷ plus 7 ∷ plus 8 ∷ [])
   pub largest : Calls "router 18446744073709551615" (Session session.Router) (plus 18446744073709551615 ∷ [])
   pub too-large : IsNone "router 18446744073709551616"
   pub leading-zero : IsNone "router 01"

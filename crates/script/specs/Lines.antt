@@ -26,10 +26,12 @@ fieldsOf l = record { numbers = pad 256 zeroNumber l; count = length l }
 unfoldable pub noCall : Line
 noCall = record { verb = Unknown; fields = fieldsOf [] }
 
--- the call of a verb with the numbers that were read and those in the words to come: none where a word is no number, or is one too many
+-- the call of a verb with the numbers that were read and those in the words to come: none where a word is no number, or
+-- is one too many
 unfoldable pub gathered : Verb → List Number → List (List ℕ) → Line
 gathered v l [] = record { verb = v; fields = fieldsOf l }
-gathered v l (w ∷ ws) = cond (numberOf w .«is_number» && ltb (length l) 256) (gathered v (l ++ (numberOf w .number ∷ [])) ws) noCall
+gathered v l (w ∷ ws) =
+    cond (numberOf w .«is_number» && ltb (length l) 256) (gathered v (l ++ (numberOf w .number ∷ [])) ws) noCall
 
 -- the call that a line writes: its first word names the verb, and the others are the numbers
 unfoldable pub lineOf : List ℕ → Line

@@ -17,7 +17,9 @@ isDigit b = leb 48 b && leb b 57
 
 -- the number with one more digit at its end, if it still fits 64 bits
 unfoldable pub pushDigit : Magnitude → ℕ → Magnitude
-pushDigit m b = cond (m .fits && isDigit b && ltb (m .value * 10 + (b - 48)) (2 ^ 64)) (record { value = m .value * 10 + (b - 48); fits = true }) noMagnitude
+pushDigit m b =
+    cond (m .fits && isDigit b && ltb (m .value * 10 + (b - 48)) (2 ^ 64))
+    (record { value = m .value * 10 + (b - 48); fits = true }) noMagnitude
 
 -- the number that a row of digits makes
 unfoldable pub digitsOf : List ℕ → Magnitude
@@ -37,7 +39,9 @@ plainOf m = record { number = record { negative = false; magnitude = m .value };
 
 -- a number after a minus: none where it is 0
 abbrev pub negatedOf : Magnitude → Reading
-negatedOf m = cond (m .fits && not (eqb (m .value) 0)) (record { number = record { negative = true; magnitude = m .value }; «is_number» = true }) (plainOf noMagnitude)
+negatedOf m =
+    cond (m .fits && not (eqb (m .value) 0))
+    (record { number = record { negative = true; magnitude = m .value }; «is_number» = true }) (plainOf noMagnitude)
 
 -- the number that a word writes
 unfoldable pub numberOf : List ℕ → Reading

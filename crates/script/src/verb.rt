@@ -142,6 +142,12 @@ pub fn verb_named(word: &[u8]) -> Verb
     ensures { λ r. ⌜ r ≡ verbNamed (now (word .entry)) ⌝ }
 {
     let names =
-        b"digest new new_at router create_window close_window create_view update_view_metrics close_view attach_surface update_surface_geometry update_surface_input_policy register_surface_system_shortcut_set set_focus capture_pointer capture_pointer_for release_pointer release_pointer_for release_device_pointer_captures begin_ime end_ime suspend_view_input arbitrate close_surface shutdown hit_test_stack inverse_point route release_surface release_all view_window view_metrics view_input_state view_pointer_captures surface_descriptor view_layers traces counts active_binding_count state router_state";
+        b"digest new new_at router create_window close_window create_view update_view_metrics close_view \
+        attach_surface update_surface_geometry update_surface_input_policy \
+        register_surface_system_shortcut_set set_focus capture_pointer capture_pointer_for release_pointer \
+        release_pointer_for release_device_pointer_captures begin_ime end_ime suspend_view_input arbitrate \
+        close_surface shutdown hit_test_stack inverse_point route release_surface release_all view_window \
+        view_metrics view_input_state view_pointer_captures surface_descriptor view_layers traces counts \
+        active_binding_count state router_state";
     verb_at(index_of_word(names, word))
 }

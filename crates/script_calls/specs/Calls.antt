@@ -21,8 +21,10 @@ use Rattle.script_calls.specs.Sessions.{sessionIn}
 abbrev pub stepIn : StepVerb → Fields → AskedCall
 stepIn (Panel v) fs = record { call = call.Panel (panelIn v fs .call); fits = panelIn v fs .fits }
 stepIn (Input v) fs = record { call = call.Input (inputIn v fs .call); fits = inputIn v fs .fits }
-stepIn ReleaseDevicePointerCaptures fs = record { call = call.ReleaseDevice (deviceIn fs .given); fits = deviceIn fs .fits }
-stepIn RegisterSurfaceSystemShortcutSet fs = record { call = call.Shortcut (RegisterSet (registerIn fs .given)); fits = registerIn fs .fits }
+stepIn ReleaseDevicePointerCaptures fs =
+    record { call = call.ReleaseDevice (deviceIn fs .given); fits = deviceIn fs .fits }
+stepIn RegisterSurfaceSystemShortcutSet fs =
+    record { call = call.Shortcut (RegisterSet (registerIn fs .given)); fits = registerIn fs .fits }
 stepIn Arbitrate fs = record { call = call.Arbitrate (arbitrateIn fs .given); fits = arbitrateIn fs .fits }
 stepIn (Close v) fs = record { call = call.Close (closeIn v fs .call); fits = closeIn v fs .fits }
 stepIn (Router v) fs = record { call = call.Router (routerIn v fs .call); fits = routerIn v fs .fits }

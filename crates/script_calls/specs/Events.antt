@@ -29,12 +29,14 @@ registerIn fs = record {
 unfoldable pub arbitrateIn : Fields → AskedArbitrate
 arbitrateIn fs = record {
   given = record { view = handleAt fs 0 .handle; event = eventAt fs 2 .event };
-  fits = has fs (11 + 2 * hitsAt fs 10 .hits .len) && (handleAt fs 0 .fits && (eventAt fs 2 .fits && hitsAt fs 10 .fits));
+  fits =
+      has fs (11 + 2 * hitsAt fs 10 .hits .len) && (handleAt fs 0 .fits && (eventAt fs 2 .fits && hitsAt fs 10 .fits));
 }
 
 -- a panel, or nothing
 abbrev pub closeIn : CloseVerb → Fields → AskedClose
-closeIn close.CloseSurface fs = record { call = CloseSurface (handleAt fs 0 .handle); fits = has fs 2 && handleAt fs 0 .fits }
+closeIn close.CloseSurface fs =
+    record { call = CloseSurface (handleAt fs 0 .handle); fits = has fs 2 && handleAt fs 0 .fits }
 closeIn close.Shutdown fs = record { call = Shutdown; fits = has fs 0 }
 
 -- header, payload kind, payload: how many fields they are is by the kind
@@ -44,5 +46,6 @@ routeIn fs = record { call = Route (inputIn fs .event); fits = has fs (inputIn f
 -- an event, a panel, or nothing
 abbrev pub routerIn : RouterVerb → Fields → AskedRouter
 routerIn router.Route fs = routeIn fs
-routerIn router.ReleaseSurface fs = record { call = ReleaseSurface (handleAt fs 0 .handle); fits = has fs 2 && handleAt fs 0 .fits }
+routerIn router.ReleaseSurface fs =
+    record { call = ReleaseSurface (handleAt fs 0 .handle); fits = has fs 2 && handleAt fs 0 .fits }
 routerIn router.ReleaseAll fs = record { call = ReleaseAll; fits = has fs 0 }

@@ -15,7 +15,12 @@ use Rattle.script_calls.specs.Arguments.{has, handleRevision, pointerRev
 -- V, O panel, revision
 unfoldable pub focusIn : Fields → AskedInput
 focusIn fs = record {
-  call = SetFocus (record { view = handleAt fs 0 .handle; surface = optionalAt fs 2 .value; revision = u64At fs 5 .value });
+  call =
+      SetFocus (record {
+        view = handleAt fs 0 .handle;
+        surface = optionalAt fs 2 .value;
+        revision = u64At fs 5 .value;
+      });
   fits = has fs 6 && (handleAt fs 0 .fits && (optionalAt fs 2 .fits && u64At fs 5 .fits));
 }
 
@@ -39,4 +44,8 @@ inputIn verb.SuspendViewInput fs = ofHandle SuspendViewInput fs
 
 -- device, generation
 abbrev pub deviceIn : Fields → AskedDevice
-deviceIn fs = record { given = record { device = u64At fs 0 .value; «device_generation» = u32At fs 1 .value }; fits = has fs 2 && (u64At fs 0 .fits && u32At fs 1 .fits) }
+deviceIn fs =
+    record {
+      given = record { device = u64At fs 0 .value; «device_generation» = u32At fs 1 .value };
+      fits = has fs 2 && (u64At fs 0 .fits && u32At fs 1 .fits);
+    }

@@ -1,4 +1,5 @@
--- The lists beside the call of a line: the registrations of a `register_surface_system_shortcut_set` line, the hits of an `arbitrate` line, and none else.
+-- The lists beside the call of a line: the registrations of a `register_surface_system_shortcut_set` line, the hits of
+-- an `arbitrate` line, and none else.
 use mathlib.Core.List.{[]}
 use Rattle.lists.specs.Tables.{packed}
 use Rattle.calls.specs.declared.call.Lists.{Lists}
@@ -17,7 +18,11 @@ noLists = record { hits = packed hits []; registrations = packed registrations [
 
 -- the registrations behind a panel and a revision; a count over 64 stands, with the first 64
 unfoldable pub ofRegister : Fields → Lists
-ofRegister fs = record { hits = packed hits []; registrations = record { items = registrationsAt fs 3 .items; len = registrationsAt fs 3 .len } }
+ofRegister fs =
+    record {
+      hits = packed hits [];
+      registrations = record { items = registrationsAt fs 3 .items; len = registrationsAt fs 3 .len };
+    }
 
 -- the hits behind a view and an event; a count over 16 stands, with the first 16
 unfoldable pub ofArbitrate : Fields → Lists

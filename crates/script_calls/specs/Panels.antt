@@ -14,25 +14,32 @@ use Rattle.script_calls.specs.Arguments.{has}
 -- V, metrics, revision
 unfoldable pub metricsIn : Fields → AskedPanel
 metricsIn fs = record {
-  call = UpdateViewMetrics (record { view = handleAt fs 0 .handle; update = metricsAt fs 2 .update; revision = u64At fs 14 .value });
+  call =
+      UpdateViewMetrics (record
+      { view = handleAt fs 0 .handle; update = metricsAt fs 2 .update; revision = u64At fs 14 .value });
   fits = has fs 15 && (handleAt fs 0 .fits && (metricsAt fs 2 .fits && u64At fs 14 .fits));
 }
 
 -- D
 unfoldable pub attachIn : Fields → AskedPanel
-attachIn fs = record { call = AttachSurface (descriptorAt fs 0 .descriptor); fits = has fs 24 && descriptorAt fs 0 .fits }
+attachIn fs =
+    record { call = AttachSurface (descriptorAt fs 0 .descriptor); fits = has fs 24 && descriptorAt fs 0 .fits }
 
 -- S, G, revision
 unfoldable pub geometryIn : Fields → AskedPanel
 geometryIn fs = record {
-  call = UpdateSurfaceGeometry (record { surface = handleAt fs 0 .handle; geometry = geometryAt fs 2 .geometry; revision = u64At fs 20 .value });
+  call =
+      UpdateSurfaceGeometry (record
+      { surface = handleAt fs 0 .handle; geometry = geometryAt fs 2 .geometry; revision = u64At fs 20 .value });
   fits = has fs 21 && (handleAt fs 0 .fits && (geometryAt fs 2 .fits && u64At fs 20 .fits));
 }
 
 -- S, policy, revision
 unfoldable pub policyIn : Fields → AskedPanel
 policyIn fs = record {
-  call = UpdateSurfaceInputPolicy (record { surface = handleAt fs 0 .handle; input = policyAt fs 2 .input; revision = u64At fs 3 .value });
+  call =
+      UpdateSurfaceInputPolicy
+      (record { surface = handleAt fs 0 .handle; input = policyAt fs 2 .input; revision = u64At fs 3 .value });
   fits = has fs 4 && (handleAt fs 0 .fits && (policyAt fs 2 .fits && u64At fs 3 .fits));
 }
 

@@ -14,7 +14,8 @@ use Rattle.script_calls.specs.Arguments.{has}
 -- V, x, y, length of the lent buffer
 unfoldable pub hitTestIn : Fields → AskedRead
 hitTestIn fs = record {
-  call = HitTestStack (record { view = handleAt fs 0 .handle; point = pointAt fs 2 .point; length = u64At fs 4 .value });
+  call =
+      HitTestStack (record { view = handleAt fs 0 .handle; point = pointAt fs 2 .point; length = u64At fs 4 .value });
   fits = has fs 5 && (handleAt fs 0 .fits && (pointAt fs 2 .fits && u64At fs 4 .fits));
 }
 

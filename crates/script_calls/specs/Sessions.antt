@@ -18,7 +18,14 @@ digestIn fs = record { call = Digest (flagAt fs 0 .value); fits = has fs 1 && fl
 -- session, epoch, limits
 unfoldable pub startAt : Fields → ℕ → ℕ → StartField
 startAt fs revision generation = record {
-  given = record { session = handleAt fs 0 .handle; «session_epoch» = u64At fs 2 .value; limits = limitsAt fs 3 .limits; «first_revision» = revision; «first_generation» = generation };
+  given =
+      record {
+        session = handleAt fs 0 .handle;
+        «session_epoch» = u64At fs 2 .value;
+        limits = limitsAt fs 3 .limits;
+        «first_revision» = revision;
+        «first_generation» = generation;
+      };
   fits = handleAt fs 0 .fits && (u64At fs 2 .fits && limitsAt fs 3 .fits);
 }
 
@@ -30,7 +37,8 @@ newIn fs = record { call = New (startAt fs 0 1 .given); fits = has fs 8 && start
 unfoldable pub newAtIn : Fields → AskedSession
 newAtIn fs = record {
   call = New (startAt fs (u64At fs 8 .value) (u32At fs 9 .value) .given);
-  fits = has fs 10 && (startAt fs (u64At fs 8 .value) (u32At fs 9 .value) .fits && (u64At fs 8 .fits && u32At fs 9 .fits));
+  fits =
+      has fs 10 && (startAt fs (u64At fs 8 .value) (u32At fs 9 .value) .fits && (u64At fs 8 .fits && u32At fs 9 .fits));
 }
 
 -- the limit of a new router

@@ -43,7 +43,9 @@ abbrev pub compositionPhases : List CompositionPhase
 compositionPhases = composition.Start ∷ composition.Update ∷ composition.End ∷ composition.Cancel ∷ []
 
 abbrev pub payloadKinds : List PayloadKind
-payloadKinds = payload.Pointer ∷ payload.Wheel ∷ payload.Key ∷ payload.Shortcut ∷ payload.Text ∷ payload.Composition ∷ payload.GamepadSnapshot ∷ payload.FocusChanged ∷ payload.VisibilityChanged ∷ payload.DeviceDisconnected ∷ []
+payloadKinds =
+    payload.Pointer ∷ payload.Wheel ∷ payload.Key ∷ payload.Shortcut ∷ payload.Text ∷ payload.Composition
+    ∷ payload.GamepadSnapshot ∷ payload.FocusChanged ∷ payload.VisibilityChanged ∷ payload.DeviceDisconnected ∷ []
 
 -- the one of a number; past the list it is the first
 abbrev pub deviceKindOf : ℕ → InputDeviceKind
@@ -75,13 +77,15 @@ abbrev pub deviceKindAt : Fields → ℕ → DeviceKindField
 deviceKindAt fs i = record { kind = deviceKindOf (unsignedOf 4 (numberAt fs i)); fits = isWithin 4 (numberAt fs i) }
 
 abbrev pub pointerPhaseAt : Fields → ℕ → PointerPhaseField
-pointerPhaseAt fs i = record { phase = pointerPhaseOf (unsignedOf 3 (numberAt fs i)); fits = isWithin 3 (numberAt fs i) }
+pointerPhaseAt fs i =
+    record { phase = pointerPhaseOf (unsignedOf 3 (numberAt fs i)); fits = isWithin 3 (numberAt fs i) }
 
 abbrev pub unitAt : Fields → ℕ → UnitField
 unitAt fs i = record { unit = unitOf (unsignedOf 2 (numberAt fs i)); fits = isWithin 2 (numberAt fs i) }
 
 abbrev pub compositionPhaseAt : Fields → ℕ → CompositionPhaseField
-compositionPhaseAt fs i = record { phase = compositionPhaseOf (unsignedOf 3 (numberAt fs i)); fits = isWithin 3 (numberAt fs i) }
+compositionPhaseAt fs i =
+    record { phase = compositionPhaseOf (unsignedOf 3 (numberAt fs i)); fits = isWithin 3 (numberAt fs i) }
 
 -- a button that changed; where none did, its number is left out
 abbrev pub buttonOf : Bool → ℕ → OptionalButton
@@ -89,4 +93,8 @@ buttonOf false n = None
 buttonOf true n = Some n
 
 abbrev pub buttonAt : Fields → ℕ → ButtonField
-buttonAt fs i = record { button = buttonOf (flagAt fs i .value) (unsignedOf 255 (numberAt fs (i + 1))); fits = flagAt fs i .fits && isWithin 255 (numberAt fs (i + 1)) }
+buttonAt fs i =
+    record {
+      button = buttonOf (flagAt fs i .value) (unsignedOf 255 (numberAt fs (i + 1)));
+      fits = flagAt fs i .fits && isWithin 255 (numberAt fs (i + 1));
+    }

@@ -45,10 +45,13 @@ mayHaveHits fs k i = hasHits k || isZeroAt fs i
 
 unfoldable pub eventAt : Fields → ℕ → EventField
 eventAt fs i = record {
-  event = eventOf (unsignedOf 10 (numberAt fs i)) (pointerAt fs (i + 1) .pointer) (optionalAt fs (i + 4) .value) (u64At fs (i + 7) .value);
+  event =
+      eventOf (unsignedOf 10 (numberAt fs i)) (pointerAt fs (i + 1) .pointer) (optionalAt fs (i + 4) .value)
+      (u64At fs (i + 7) .value);
   fits =
       isWithin 10 (numberAt fs i)
       && (pointerAt fs (i + 1) .fits
       && (u64At fs (i + 7) .fits
-      && (targetFits fs (unsignedOf 10 (numberAt fs i)) (i + 4) && mayHaveHits fs (unsignedOf 10 (numberAt fs i)) (i + 8))));
+      && (targetFits fs (unsignedOf 10 (numberAt fs i)) (i + 4)
+      && mayHaveHits fs (unsignedOf 10 (numberAt fs i)) (i + 8))));
 }

@@ -35,7 +35,11 @@ u64At fs i = record { value = unsignedOf maxU64 (numberAt fs i); fits = isWithin
 
 -- H: index, generation
 abbrev pub handleAt : Fields → ℕ → HandleField
-handleAt fs i = record { handle = handleOf (u32At fs i .value) (u32At fs (i + 1) .value); fits = u32At fs i .fits && u32At fs (i + 1) .fits }
+handleAt fs i =
+    record {
+      handle = handleOf (u32At fs i .value) (u32At fs (i + 1) .value);
+      fits = u32At fs i .fits && u32At fs (i + 1) .fits;
+    }
 
 -- a handle of zeros stands for none
 abbrev pub isZeroHandle : GenerationalHandle → Bool
@@ -48,18 +52,34 @@ optionalOf false fits h = record { value = None; fits = fits && isZeroHandle h }
 
 -- O: a flag, then a handle
 abbrev pub optionalAt : Fields → ℕ → OptionalField
-optionalAt fs i = optionalOf (eqb (unsignedOf 1 (numberAt fs i)) 1) (isWithin 1 (numberAt fs i) && handleAt fs (i + 1) .fits) (handleAt fs (i + 1) .handle)
+optionalAt fs i =
+    optionalOf (eqb (unsignedOf 1 (numberAt fs i)) 1) (isWithin 1 (numberAt fs i) && handleAt fs (i + 1) .fits)
+    (handleAt fs (i + 1) .handle)
 
 -- K: device, device generation, contact
 abbrev pub pointerAt : Fields → ℕ → PointerField
 pointerAt fs i = record {
-  pointer = record { device = u64At fs i .value; «device_generation» = u32At fs (i + 1) .value; contact = u32At fs (i + 2) .value };
+  pointer =
+      record {
+        device = u64At fs i .value;
+        «device_generation» = u32At fs (i + 1) .value;
+        contact = u32At fs (i + 2) .value;
+      };
   fits = u64At fs i .fits && (u32At fs (i + 1) .fits && u32At fs (i + 2) .fits);
 }
 
 -- the five limits of a start
 abbrev pub limitsAt : Fields → ℕ → LimitsField
 limitsAt fs i = record {
-  limits = record { «max_windows» = u64At fs i .value; «max_views» = u64At fs (i + 1) .value; «max_surfaces» = u64At fs (i + 2) .value; «max_surfaces_per_view» = u64At fs (i + 3) .value; «max_trace_entries» = u64At fs (i + 4) .value };
-  fits = u64At fs i .fits && (u64At fs (i + 1) .fits && (u64At fs (i + 2) .fits && (u64At fs (i + 3) .fits && u64At fs (i + 4) .fits)));
+  limits =
+      record {
+        «max_windows» = u64At fs i .value;
+        «max_views» = u64At fs (i + 1) .value;
+        «max_surfaces» = u64At fs (i + 2) .value;
+        «max_surfaces_per_view» = u64At fs (i + 3) .value;
+        «max_trace_entries» = u64At fs (i + 4) .value;
+      };
+  fits =
+      u64At fs i .fits && (u64At fs (i + 1) .fits
+      && (u64At fs (i + 2) .fits && (u64At fs (i + 3) .fits && u64At fs (i + 4) .fits)));
 }

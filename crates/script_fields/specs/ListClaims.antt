@@ -12,11 +12,14 @@ use Rattle.script_fields.specs.ListFields.{handlesFrom, hitsFrom, noRegi
 
 pub record ListClaims : Type 0 where
   -- an entry is read from its own fields
-  pub hit-at : (fs : Fields) (i n k : ℕ) → k < n → getD (handlesFrom fs i n) k (handleOf 0 0) ≡ handleAt fs (i + 2 * k) .handle
-  pub registration-at : (fs : Fields) (i n k : ℕ) → k < n → getD (listFrom fs i n) k noRegistration ≡ registrationAt fs (i + 3 * k) .registration
+  pub hit-at : (fs : Fields) (i n k : ℕ) → k < n → getD (handlesFrom fs i n) k (handleOf 0 0)
+      ≡ handleAt fs (i + 2 * k) .handle
+  pub registration-at : (fs : Fields) (i n k : ℕ) → k < n → getD (listFrom fs i n) k noRegistration
+      ≡ registrationAt fs (i + 3 * k) .registration
   -- a list that fits its table stands there whole, with blanks behind it
   pub hits-packed : (fs : Fields) (i n : ℕ) → n ≤ 16 → hitsFrom fs i n .hits ≡ packed hits (handlesFrom fs i n)
-  pub registrations-held : (fs : Fields) (i n : ℕ) → n ≤ 64 → registrationsFrom fs i n .items ≡ pad 64 noRegistration (listFrom fs i n)
+  pub registrations-held : (fs : Fields) (i n : ℕ) → n ≤ 64 → registrationsFrom fs i n .items
+      ≡ pad 64 noRegistration (listFrom fs i n)
   -- of a longer one the first entries stand
   pub hits-cut : (fs : Fields) (i n : ℕ) → 16 ≤ n → hitsFrom fs i n .hits .items ≡ handlesFrom fs i 16
   pub registrations-cut : (fs : Fields) (i n : ℕ) → 64 ≤ n → registrationsFrom fs i n .items ≡ listFrom fs i 64

@@ -35,7 +35,12 @@ scopeAt fs i = record { scope = scopeOf (unsignedOf 2 (numberAt fs i)); fits = i
 -- a registration: mask, scope, priority
 unfoldable pub registrationAt : Fields → ℕ → RegistrationField
 registrationAt fs i = record {
-  registration = record { «class_mask» = u64At fs i .value; scope = scopeAt fs (i + 1) .scope; priority = i16At fs (i + 2) .value };
+  registration =
+      record {
+        «class_mask» = u64At fs i .value;
+        scope = scopeAt fs (i + 1) .scope;
+        priority = i16At fs (i + 2) .value;
+      };
   fits = u64At fs i .fits && (scopeAt fs (i + 1) .fits && i16At fs (i + 2) .fits);
 }
 
@@ -56,7 +61,11 @@ unfoldable pub handlesFrom : Fields → ℕ → ℕ → List GenerationalHandle
 handlesFrom fs i n = map (λ k. handleAt fs (i + 2 * k) .handle) (below n)
 
 unfoldable pub hitsFrom : Fields → ℕ → ℕ → HitsField
-hitsFrom fs i n = record { hits = record { items = placed 16 (handleOf 0 0) (handlesFrom fs i n); len = n }; fits = allBelow (λ k. handleAt fs (i + 2 * k) .fits) n }
+hitsFrom fs i n =
+    record {
+      hits = record { items = placed 16 (handleOf 0 0) (handlesFrom fs i n); len = n };
+      fits = allBelow (λ k. handleAt fs (i + 2 * k) .fits) n;
+    }
 
 -- hits: a count from 0 to 20, then as many handles; the count stands also where it is over the 16 places
 unfoldable pub hitsAt : Fields → ℕ → HitsField
@@ -73,7 +82,12 @@ unfoldable pub listFrom : Fields → ℕ → ℕ → List SurfaceShortcutRegistr
 listFrom fs i n = map (λ k. registrationAt fs (i + 3 * k) .registration) (below n)
 
 unfoldable pub registrationsFrom : Fields → ℕ → ℕ → RegistrationsField
-registrationsFrom fs i n = record { items = placed 64 noRegistration (listFrom fs i n); len = n; fits = allBelow (λ k. registrationAt fs (i + 3 * k) .fits) n }
+registrationsFrom fs i n =
+    record {
+      items = placed 64 noRegistration (listFrom fs i n);
+      len = n;
+      fits = allBelow (λ k. registrationAt fs (i + 3 * k) .fits) n;
+    }
 
 -- registrations: a count from 0 to 70, then as many; the count stands also where it is over the 64 places
 unfoldable pub registrationsAt : Fields → ℕ → RegistrationsField

@@ -50,26 +50,55 @@ rectOf false r fits zeros = record { rect = None; fits = fits && zeros }
 unfoldable pub rectAt : Fields → ℕ → RectField
 rectAt fs i =
     rectOf (flagAt fs i .value)
-    (record { «x_milli» = i32At fs (i + 1) .value; «y_milli» = i32At fs (i + 2) .value; «width_milli» = u32At fs (i + 3) .value; «height_milli» = u32At fs (i + 4) .value })
-    (flagAt fs i .fits && (i32At fs (i + 1) .fits && (i32At fs (i + 2) .fits && (u32At fs (i + 3) .fits && u32At fs (i + 4) .fits))))
+    (record {
+      «x_milli» = i32At fs (i + 1) .value;
+      «y_milli» = i32At fs (i + 2) .value;
+      «width_milli» = u32At fs (i + 3) .value;
+      «height_milli» = u32At fs (i + 4) .value;
+    })
+    (flagAt fs i .fits && (i32At fs (i + 1) .fits
+    && (i32At fs (i + 2) .fits && (u32At fs (i + 3) .fits && u32At fs (i + 4) .fits))))
     (areZeroAt fs i)
 
 -- the six numbers of a matrix
 unfoldable pub transformAt : Fields → ℕ → TransformField
 transformAt fs i = record {
-  transform = record { «m11_q16» = i32At fs i .value; «m12_q16» = i32At fs (i + 1) .value; «m21_q16» = i32At fs (i + 2) .value; «m22_q16» = i32At fs (i + 3) .value; «translate_x_milli» = i32At fs (i + 4) .value; «translate_y_milli» = i32At fs (i + 5) .value };
-  fits = (i32At fs i .fits && (i32At fs (i + 1) .fits && (i32At fs (i + 2) .fits && i32At fs (i + 3) .fits))) && (i32At fs (i + 4) .fits && i32At fs (i + 5) .fits);
+  transform =
+      record {
+        «m11_q16» = i32At fs i .value;
+        «m12_q16» = i32At fs (i + 1) .value;
+        «m21_q16» = i32At fs (i + 2) .value;
+        «m22_q16» = i32At fs (i + 3) .value;
+        «translate_x_milli» = i32At fs (i + 4) .value;
+        «translate_y_milli» = i32At fs (i + 5) .value;
+      };
+  fits =
+      (i32At fs i .fits && (i32At fs (i + 1) .fits && (i32At fs (i + 2) .fits && i32At fs (i + 3) .fits)))
+      && (i32At fs (i + 4) .fits && i32At fs (i + 5) .fits);
 }
 
 -- a point: x, y
 unfoldable pub pointAt : Fields → ℕ → PointField
-pointAt fs i = record { point = record { «x_milli» = i32At fs i .value; «y_milli» = i32At fs (i + 1) .value }; fits = i32At fs i .fits && i32At fs (i + 1) .fits }
+pointAt fs i =
+    record {
+      point = record { «x_milli» = i32At fs i .value; «y_milli» = i32At fs (i + 1) .value };
+      fits = i32At fs i .fits && i32At fs (i + 1) .fits;
+    }
 
 -- G: bounds, clip, matrix, opacity, hit testing
 unfoldable pub geometryAt : Fields → ℕ → GeometryField
 geometryAt fs i = record {
-  geometry = record { bounds = rectAt fs i .rect; clip = rectAt fs (i + 5) .rect; transform = transformAt fs (i + 10) .transform; «opacity_q16» = unsignedOf 65535 (numberAt fs (i + 16)); «hit_test_enabled» = flagAt fs (i + 17) .value };
-  fits = rectAt fs i .fits && (rectAt fs (i + 5) .fits && (transformAt fs (i + 10) .fits && (isWithin 65535 (numberAt fs (i + 16)) && flagAt fs (i + 17) .fits)));
+  geometry =
+      record {
+        bounds = rectAt fs i .rect;
+        clip = rectAt fs (i + 5) .rect;
+        transform = transformAt fs (i + 10) .transform;
+        «opacity_q16» = unsignedOf 65535 (numberAt fs (i + 16));
+        «hit_test_enabled» = flagAt fs (i + 17) .value;
+      };
+  fits =
+      rectAt fs i .fits && (rectAt fs (i + 5) .fits
+      && (transformAt fs (i + 10) .fits && (isWithin 65535 (numberAt fs (i + 16)) && flagAt fs (i + 17) .fits)));
 }
 
 -- the enums by their numbers
@@ -89,19 +118,37 @@ abbrev pub visibilityOf : ℕ → ViewVisibility
 visibilityOf n = cond (eqb n 0) Visible (cond (eqb n 1) Hidden Suspended)
 
 abbrev pub visibilityAt : Fields → ℕ → VisibilityField
-visibilityAt fs i = record { visibility = visibilityOf (unsignedOf 2 (numberAt fs i)); fits = isWithin 2 (numberAt fs i) }
+visibilityAt fs i =
+    record { visibility = visibilityOf (unsignedOf 2 (numberAt fs i)); fits = isWithin 2 (numberAt fs i) }
 
 -- the insets: top, right, bottom, left
 unfoldable pub insetsAt : Fields → ℕ → InsetsField
 insetsAt fs i = record {
-  insets = record { «top_milli» = u32At fs i .value; «right_milli» = u32At fs (i + 1) .value; «bottom_milli» = u32At fs (i + 2) .value; «left_milli» = u32At fs (i + 3) .value };
+  insets =
+      record {
+        «top_milli» = u32At fs i .value;
+        «right_milli» = u32At fs (i + 1) .value;
+        «bottom_milli» = u32At fs (i + 2) .value;
+        «left_milli» = u32At fs (i + 3) .value;
+      };
   fits = u32At fs i .fits && (u32At fs (i + 1) .fits && (u32At fs (i + 2) .fits && u32At fs (i + 3) .fits));
 }
 
 -- metrics without their revision
 unfoldable pub metricsAt : Fields → ℕ → MetricsField
 metricsAt fs i = record {
-  update = record { «origin_x_milli» = i32At fs i .value; «origin_y_milli» = i32At fs (i + 1) .value; «width_milli» = u32At fs (i + 2) .value; «height_milli» = u32At fs (i + 3) .value; «framebuffer_width» = u32At fs (i + 4) .value; «framebuffer_height» = u32At fs (i + 5) .value; «scale_q16» = u32At fs (i + 6) .value; «safe_area» = insetsAt fs (i + 7) .insets; visibility = visibilityAt fs (i + 11) .visibility };
+  update =
+      record {
+        «origin_x_milli» = i32At fs i .value;
+        «origin_y_milli» = i32At fs (i + 1) .value;
+        «width_milli» = u32At fs (i + 2) .value;
+        «height_milli» = u32At fs (i + 3) .value;
+        «framebuffer_width» = u32At fs (i + 4) .value;
+        «framebuffer_height» = u32At fs (i + 5) .value;
+        «scale_q16» = u32At fs (i + 6) .value;
+        «safe_area» = insetsAt fs (i + 7) .insets;
+        visibility = visibilityAt fs (i + 11) .visibility;
+      };
   fits =
       (i32At fs i .fits && (i32At fs (i + 1) .fits && (u32At fs (i + 2) .fits && u32At fs (i + 3) .fits)))
       && ((u32At fs (i + 4) .fits && (u32At fs (i + 5) .fits && u32At fs (i + 6) .fits))
@@ -111,7 +158,15 @@ metricsAt fs i = record {
 -- D: view, kind, z order, policy, text, geometry
 unfoldable pub descriptorAt : Fields → ℕ → DescriptorField
 descriptorAt fs i = record {
-  descriptor = record { view = handleAt fs i .handle; kind = kindAt fs (i + 2) .kind; «z_order» = i32At fs (i + 3) .value; input = policyAt fs (i + 4) .input; «accepts_text» = flagAt fs (i + 5) .value; geometry = geometryAt fs (i + 6) .geometry };
+  descriptor =
+      record {
+        view = handleAt fs i .handle;
+        kind = kindAt fs (i + 2) .kind;
+        «z_order» = i32At fs (i + 3) .value;
+        input = policyAt fs (i + 4) .input;
+        «accepts_text» = flagAt fs (i + 5) .value;
+        geometry = geometryAt fs (i + 6) .geometry;
+      };
   fits =
       (handleAt fs i .fits && (kindAt fs (i + 2) .fits && i32At fs (i + 3) .fits))
       && (policyAt fs (i + 4) .fits && (flagAt fs (i + 5) .fits && geometryAt fs (i + 6) .fits));

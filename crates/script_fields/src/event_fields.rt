@@ -1,4 +1,5 @@
-// The event of an `arbitrate` line. Every kind has every field; what a kind does not have may hold anything of its range.
+// The event of an `arbitrate` line. Every kind has every field; what a kind does not have may hold anything of its
+// range.
 ghost use mathlib.Core.Path.{_≡_};
 ghost use mathlib.Core.Bool.{_||_};
 ghost use Rattle.script_fields.specs.Events.{eventOf, hasTarget, hasHits, targetFits, mayHaveHits, eventAt};

@@ -1,4 +1,5 @@
-// The two lists of a line, hits and registrations: a count, then as many groups. A list that is longer than its table is counted in full.
+// The two lists of a line, hits and registrations: a count, then as many groups. A list that is longer than its table
+// is counted in full.
 ghost use mathlib.Core.Path.{_≡_};
 ghost use Prim.Native.Nat.{_+_};
 ghost use mathlib.Core.Bool.{_&&_};
@@ -153,7 +154,11 @@ fn push_registration(
     k: u16,
     read: RegistrationField,
 ) -> RegistrationsField
-    ensures { λ r. ⌜ r ≡ record { items = set (list .items) k (read .registration); len = k + 1; fits = list .fits && read .fits } ⌝ }
+    ensures { λ r. ⌜ r ≡ record {
+      items = set (list .items) k (read .registration);
+      len = k + 1;
+      fits = list .fits && read .fits;
+    } ⌝ }
 {
     let at = k as usize;
     let registration = read.registration;

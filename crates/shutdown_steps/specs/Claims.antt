@@ -1,4 +1,4 @@
--- Document 01, Shutdown: the definition in use answers and leaves what the Rust's steps do, and none is refused.
+-- RULES.md, Shutdown: the definition in use answers and leaves what the Rust's steps do, and none is refused.
 use mathlib.Core.Path.{_≡_}
 use Rattle.handles.specs.Slots.{liveHandles}
 use Rattle.records.specs.declared.error.Outcome.the-variants.{Accepted}
@@ -7,7 +7,7 @@ use Rattle.composition_close.specs.Shutdown.{shutdownRefusal, shutdownOf}
 use Rattle.composition_soundness.specs.Claims.{Whole, Undamaged}
 use Rattle.shutdown_steps.specs.Steps.{shutdownSteps, shutdownBySteps}
 
--- Document 01, Shutdown: 21 and 22 come before any change, after 42, and nothing after them can stop it
+-- RULES.md, Shutdown: 21 and 22 come before any change, after 42, and nothing after them can stop it
 pub record ShutdownClaims : Type 0 where
   -- after 42, 21 and 22 no step is refused
   pub no-refusal : (r : CompositionRegistry) → Undamaged r → shutdownRefusal r ≡ Accepted

@@ -1,4 +1,4 @@
--- Document 01, Shutdown, as the Rust does it: after 42, 21 and 22 a fold of the public calls `close_surface`,
+-- RULES.md, Shutdown, as the Rust does it: after 42, 21 and 22 a fold of the public calls `close_surface`,
 -- `close_view` and `close_window` that ends at the first refusal.
 use mathlib.Core.Bool.{cond}
 use mathlib.Core.List.{List, [], _∷_, _++_, reverse}

@@ -1,4 +1,4 @@
-//! The answer of one side to a call: document 01's number, and the whole result as text.
+//! The answer of one side to a call: REFUSALS.md's number, and the whole result as text.
 
 use std::fmt::Debug;
 

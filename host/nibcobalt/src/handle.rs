@@ -26,5 +26,5 @@ pub type SessionHandle = GenerationalHandle;
 pub type WindowHandle = GenerationalHandle;
 /// The handle of a view.
 pub type ViewHandle = GenerationalHandle;
-/// The handle of a surface, which document 01 calls a panel.
+/// The handle of a surface, which RULES.md calls a panel.
 pub type SurfaceHandle = GenerationalHandle;

@@ -1,4 +1,4 @@
-//! Document 01's session at the desk, through this crate.
+//! The session of RULES.md, Desk, through this crate.
 
 use nibcobalt::composition::*;
 use nibcobalt::platform_input::*;

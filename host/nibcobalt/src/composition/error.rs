@@ -46,9 +46,9 @@ pub enum CompositionError {
     TextUnsupported,
     /// The expected revision is not the present one.
     RevisionConflict,
-    /// The revision cannot rise any more; document 01 says what has been written.
+    /// The revision cannot rise any more; RULES.md says what has been written.
     RevisionExhausted,
-    /// A slot's generation cannot rise any more; document 01 says what has been written.
+    /// A slot's generation cannot rise any more; RULES.md says what has been written.
     GenerationExhausted,
     /// Not in the source: a limit of the port is passed.
     PortLimit,
@@ -85,7 +85,7 @@ const PORT_LIMIT: u64 = 41;
 const DAMAGED: u64 = 42;
 
 impl CompositionError {
-    /// Document 01's number of the refusal: 1 to 22, 41 or 42.
+    /// REFUSALS.md's number of the refusal: 1 to 22, 41 or 42.
     pub const fn number(self) -> u64 {
         match self {
             Self::PortLimit => PORT_LIMIT,

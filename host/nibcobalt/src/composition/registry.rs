@@ -1,4 +1,4 @@
-//! The registry. Document 01 has the rules of each call and the order of its refusals.
+//! The registry. RULES.md has the rules of each call and the order of its refusals.
 
 use std::cell::{OnceCell, RefCell};
 

@@ -1,4 +1,4 @@
-//! Surfaces (document 01's panels) and their registrations of system shortcuts.
+//! Surfaces (panels in RULES.md) and their registrations of system shortcuts.
 
 use super::SurfaceGeometry;
 use crate::{SurfaceHandle, ViewHandle};

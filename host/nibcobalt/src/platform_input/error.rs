@@ -55,7 +55,7 @@ const PORT_LIMIT: u64 = 41;
 const DAMAGED: u64 = 42;
 
 impl PlatformInputError {
-    /// Document 01's number of the refusal: 31 to 42, or the registry's own.
+    /// REFUSALS.md's number of the refusal: 31 to 42, or the registry's own.
     pub const fn number(self) -> u64 {
         match self {
             Self::InvalidDevice => 31,

@@ -1,4 +1,4 @@
-//! The router. Document 01 has the rules of each call and the order of its refusals.
+//! The router. RULES.md has the rules of each call and the order of its refusals.
 
 use std::cell::RefCell;
 

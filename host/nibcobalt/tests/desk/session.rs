@@ -1,4 +1,4 @@
-// Document 01's session at the desk, as its program writes it. This text is compiled over this crate and over the
+// The session of RULES.md, Desk, as its program writes it. This text is compiled over this crate and over the
 // unchanged Rust: only the imports before it differ.
 
 fn limits() -> CompositionLimits {
@@ -42,7 +42,7 @@ fn release(release: &SynthesizedInputRelease) -> String {
     format!("P{device}.{device_generation}.{contact}@{}", handle(*surface))
 }
 
-/// Document 01's numbers of what this session refuses.
+/// REFUSALS.md's numbers of what this session refuses.
 fn number(refusal: PlatformInputError) -> u32 {
     match refusal {
         PlatformInputError::InvalidSequence => 32,
