@@ -49,7 +49,7 @@ steps memory m buf e = (
   ap (λ (n : ℕ). counterOf (cond (eqb n 0) (made memory m buf) (untouched n memory m buf) .1 .memory)) e ∙ memory-claims .read-back (stepOf memory m .counter),
 )
 
--- what is no form of a `route` is refused
+-- what is malformed or no `route` is refused
 is-form : (b : Bool) (n : ℕ) → refusalOf b n ≡ 0 → b ≡ true
 is-form true n e = refl
 is-form false n e = absurd (omega (arith, e))

@@ -31,7 +31,7 @@ made memory m buf = madeOf m (stepped (counterOf memory) (callAt (m .call)) (lis
 abbrev pub untouched : ℕ → CounterMemory → Message → List ℕ → List ℕ × Called
 untouched n memory m buf = (buf, record { status = statusOf n; memory = memory; message = m })
 
--- a message that is no form, or a short buffer, is refused
+-- a malformed message, or a short buffer, is refused
 unfoldable pub called : CounterMemory → Message → List ℕ → List ℕ × Called
 called memory m buf = let n =
     refusalOf (isMessage m) (length buf) in cond (eqb n 0) (made memory m buf) (untouched n memory m buf)

@@ -35,7 +35,7 @@ routeMade memory m buf = routeMadeOf m (routerStep (counterOf memory) (routerAt 
 abbrev pub untouchedRoute : ℕ → CounterMemory → RouteMessage → List ℕ → List ℕ × RouteCalled
 untouchedRoute n memory m buf = (buf, record { status = statusOf n; memory = memory; message = m })
 
--- numbers that are no form of a `route`, or a short buffer, are refused
+-- what is malformed or no `route`, or a short buffer, is refused
 unfoldable pub routeCalled : CounterMemory → RouteMessage → List ℕ → List ℕ × RouteCalled
 routeCalled memory m buf = let n =
     refusalOf (isRouteForm (m .call)) (length buf) in

@@ -45,7 +45,7 @@ fn make(memory: CounterMemory, message: Message, answer: &mut [u8]) -> Called
     }
 }
 
-// A message that is no form is answered 1000, a buffer that is too short 1001, and nothing is altered.
+// A malformed message is answered 1000, a buffer that is too short 1001, and nothing is altered.
 pub fn call(memory: CounterMemory, message: Message, answer: &mut [u8]) -> Called
     ensures { λ r. ⌜ _≡_ {A = List ℕ × Called} (now (answer .exit), r) (called memory message (now (answer .entry))) ⌝ }
 {

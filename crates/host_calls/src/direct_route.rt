@@ -49,7 +49,7 @@ fn make_route(memory: CounterMemory, message: RouteMessage, answer: &mut [u8]) -
     }
 }
 
-// Numbers that are no form of a `route` are answered 1000, a buffer that is too short 1001, and nothing is altered.
+// A message that is malformed or no `route` is answered 1000, a buffer that is too short 1001, and nothing is altered.
 pub fn route(memory: CounterMemory, message: RouteMessage, answer: &mut [u8]) -> RouteCalled
     ensures { λ r. ⌜ _≡_ {A = List ℕ × RouteCalled} (now (answer .exit), r)
         (routeCalled memory message (now (answer .entry))) ⌝ }
