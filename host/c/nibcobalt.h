@@ -90,9 +90,9 @@ typedef struct {
 #define NIBCOBALT_ANSWER_BYTES 36864
 
 /* The bytes of stack that each function needs, with all that it calls, but for functions of the C library. */
-#define NIBCOBALT_STACK_START_COUNTER 269392
-#define NIBCOBALT_STACK_CALL 1621488
-#define NIBCOBALT_STACK_ROUTE 1034880
+#define NIBCOBALT_STACK_START_COUNTER 269344
+#define NIBCOBALT_STACK_CALL 1573248
+#define NIBCOBALT_STACK_ROUTE 988416
 
 /* Any call: its number, its fields, zeros behind them; and the lists beside it. */
 typedef struct {

@@ -14,11 +14,11 @@ pub const MALFORMED: u64 = 1000;
 pub const SHORT_BUFFER: u64 = 1001;
 
 /// The bytes of stack that [`start`] needs in the library.
-pub const STACK_START_COUNTER: usize = 269_392;
+pub const STACK_START_COUNTER: usize = 269_344;
 /// The bytes of stack that [`call`] needs in the library.
-pub const STACK_CALL: usize = 1_621_488;
+pub const STACK_CALL: usize = 1_573_248;
 /// The bytes of stack that [`route`] needs in the library.
-pub const STACK_ROUTE: usize = 1_034_880;
+pub const STACK_ROUTE: usize = 988_416;
 
 /// The words of a counter's memory that are its registry.
 pub const REGISTRY_WORDS: usize = 5188;
