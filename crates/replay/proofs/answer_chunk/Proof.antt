@@ -17,11 +17,11 @@ less-left : (chunk : List ℕ) (at next : ℕ) → at < length chunk → next �
 less-left chunk at next h e = omega (arith, advances chunk at h)
 
 abbrev Inv-loop : tie.InvT-loop
-Inv-loop chunk line₀ out₀ session₀ len₀ at₀ line out session len at =
+Inv-loop chunk line₀ out₀ session₀ len₀ told₀ at₀ line out session len told at =
     (length line ≡ length line₀) × ((length out ≡ length out₀) × Leads (servingOf session₀ line₀ len₀ out₀ []) chunk session line len out at)
 
 abbrev μ-loop : tie.MeasureT-loop
-μ-loop chunk line₀ out₀ session₀ len₀ at₀ line out session len at = length chunk - at
+μ-loop chunk line₀ out₀ session₀ len₀ told₀ at₀ line out session len told at = length chunk - at
 
 loop-holds : tie.Need-loop-holds Inv-loop μ-loop
 loop-holds c = (refl, (refl, leads-start _ _ _ _ _))
@@ -29,16 +29,16 @@ loop-holds c = (refl, (refl, leads-start _ _ _ _ _))
 next-answer-requires : tie.Need-next-answer-requires Inv-loop μ-loop
 next-answer-requires c κs = search needs
 
-write-front-requires : tie.Need-write-front-requires Inv-loop μ-loop
-write-front-requires c κs = search needs
+write-answer-requires : tie.Need-write-answer-requires Inv-loop μ-loop
+write-answer-requires c κs = search needs
 
 loop-less : tie.Need-loop-less Inv-loop μ-loop
-loop-less c = less-left _ _ _ (c .before .before .before .before .before .before .before .before .before .before .loop-test .taken) (c .before .before .before .before .before .before .before .next-answer .ensures .1)
+loop-less c = less-left _ _ _ (c .before .before .before .before .before .before .before .before .before .before .before .loop-test .taken) (c .before .before .before .before .before .before .before .before .next-answer .ensures .1)
 
 loop-again : tie.Need-loop-again Inv-loop μ-loop
 loop-again c =
-    let turn = c .before .before .before .before .before .before .before .next-answer .ensures in
-    (search needs, (search needs, leads-turn _ _ _ _ _ _ _ (c .before .before .before .before .before .before .before .before .before .before .before .loop .inv .1 .1) _ _ _ _ _ _ (c .before .before .before .before .before .before .before .before .before .before .loop-test .taken) (turn .0) (turn .1)))
+    let turn = c .before .before .before .before .before .before .before .before .next-answer .ensures in
+    (search needs, (search needs, leads-turn _ _ _ _ _ _ _ (c .before .before .before .before .before .before .before .before .before .before .before .before .loop .inv .1 .1) _ _ _ _ _ _ (c .before .before .before .before .before .before .before .before .before .before .before .loop-test .taken) (turn .0) (turn .1)))
 
 same-length : tie.Need-same-length Inv-loop μ-loop
 same-length c = search needs
@@ -57,7 +57,7 @@ answer-chunk-spec =
     μ-loop
     loop-holds
     next-answer-requires
-    write-front-requires
+    write-answer-requires
     loop-less
     loop-again
     same-length

@@ -32,8 +32,11 @@ loop-again c = search needs
 answer-bytes-requires : tie.Need-answer-bytes-requires Inv-loop μ-loop
 answer-bytes-requires c κs = search needs
 
-write-front-requires : tie.Need-write-front-requires Inv-loop μ-loop
-write-front-requires c κs = search needs
+write-answer-requires : tie.Need-write-answer-requires Inv-loop μ-loop
+write-answer-requires c κs = search needs
+
+tell-unwritten-requires : tie.Need-tell-unwritten-requires Inv-loop μ-loop
+tell-unwritten-requires c κs = search needs
 
 same-length : tie.Need-same-length Inv-loop μ-loop
 same-length c = search needs
@@ -43,6 +46,15 @@ same-length-2 c = search needs
 
 returns : tie.Need-returns Inv-loop μ-loop
 returns c = search needs
+
+same-length-3 : tie.Need-same-length-3 Inv-loop μ-loop
+same-length-3 c = search needs
+
+same-length-4 : tie.Need-same-length-4 Inv-loop μ-loop
+same-length-4 c = search needs
+
+returns-2 : tie.Need-returns-2 Inv-loop μ-loop
+returns-2 c = search needs
 
 pub serve-spec : {M : Type 1} → statement M
 serve-spec =
@@ -57,7 +69,11 @@ serve-spec =
     loop-less
     loop-again
     answer-bytes-requires
-    write-front-requires
+    write-answer-requires
+    tell-unwritten-requires
     same-length
     same-length-2
-    returns)
+    returns
+    same-length-3
+    same-length-4
+    returns-2)
