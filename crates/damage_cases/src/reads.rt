@@ -15,6 +15,21 @@ fn ask(name: &[u8], registry: CompositionRegistry, router: PlatformInputRouter, 
     crate::report(name, outcome);
 }
 
+// A read of a damaged registry beside a sound router.
+fn ask_registry(name: &[u8], registry: CompositionRegistry, call: ReadCall) {
+    ask(name, miscounted(registry), crate::routers::base(), call);
+}
+
+// A read of a damaged router beside a sound registry.
+fn ask_router(name: &[u8], registry: CompositionRegistry, call: ReadCall) {
+    ask(name, registry, crate::routers::with_falling_keys(), call);
+}
+
+// A read beside a registry and a router that are both damaged.
+fn ask_both(name: &[u8], registry: CompositionRegistry, call: ReadCall) {
+    ask_router(name, miscounted(registry), call);
+}
+
 fn with_live(a: Arena, live: usize) -> Arena {
     let mut next = a;
     next.live = live;
@@ -74,63 +89,53 @@ fn show_fields(registry: CompositionRegistry) {
     );
 }
 
-fn ask_each(
-    registry: CompositionRegistry,
-    odd: CompositionRegistry,
-    router: PlatformInputRouter,
-    damaged: PlatformInputRouter,
-) {
-    ask(
+fn ask_calls(registry: CompositionRegistry) {
+    ask_registry(
         b"reads: traces, the registry damaged",
-        odd,
-        router,
+        registry,
         ReadCall::Traces,
     );
-    ask(
+    ask_registry(
         b"reads: counts, the registry damaged",
-        odd,
-        router,
+        registry,
         ReadCall::Counts,
     );
-    ask(
-        b"reads: open presses, the router damaged",
+    ask_registry(
+        b"reads: open presses, the registry damaged",
         registry,
-        damaged,
         ReadCall::ActiveBindingCount,
     );
-    ask(
+    ask_router(
         b"reads: traces, the router damaged",
         registry,
-        damaged,
         ReadCall::Traces,
     );
-    ask(
+    ask_router(
         b"reads: counts, the router damaged",
         registry,
-        damaged,
         ReadCall::Counts,
     );
-    ask(
-        b"reads: open presses, the registry damaged",
-        odd,
-        router,
+    ask_router(
+        b"reads: open presses, the router damaged",
+        registry,
         ReadCall::ActiveBindingCount,
     );
-    ask(
+    ask_both(
         b"reads: an inverse point, both damaged",
-        odd,
-        damaged,
+        registry,
         ReadCall::InversePoint(origin()),
     );
 }
 
-pub fn ask_all(registry: CompositionRegistry) {
-    let odd = miscounted(registry);
-    let damaged = crate::routers::with_falling_keys();
-    ask_each(registry, odd, crate::routers::base(), damaged);
-    show_fields(odd);
+fn show_open_presses(router: PlatformInputRouter) {
     show(
         b"plain: open presses of a damaged router",
-        damaged.active_binding_count() as u64,
+        router.active_binding_count() as u64,
     );
+}
+
+pub fn ask_all(registry: CompositionRegistry) {
+    ask_calls(registry);
+    show_fields(miscounted(registry));
+    show_open_presses(crate::routers::with_falling_keys());
 }
