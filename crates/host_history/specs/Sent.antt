@@ -1,5 +1,5 @@
--- A host's calls of the library as a list of calls on one counter. What the library refuses, as malformed or for a short
--- buffer, is no call.
+-- A host's calls of the library as a list of calls on one counter. What the library refuses, as malformed or for a
+-- short buffer, is no call.
 use Prim.Native.Nat.{ℕ}
 use mathlib.Core.Bool.{Bool, cond}
 use mathlib.Core.List.{List, [], _∷_}
