@@ -15,5 +15,4 @@ pub mod ShutdownLaws
 pub mod ClaimLaws
 pub mod ClearLaws
 pub mod AnswerLaws
-pub mod HistoryLaws
 pub mod TypeLaws

@@ -11,6 +11,7 @@ use composition_state::registry::CompositionRegistry;
 use geometry::surface::SurfaceGeometry;
 use handles::GenerationalHandle;
 use libc::STDOUT_FILENO;
+use maps::keys::CompositionPointerId;
 use records::error::Outcome;
 use records::surface::SurfaceDescriptor;
 use records::surface::SurfaceInputPolicy;
@@ -71,42 +72,52 @@ fn base() -> CompositionRegistry {
         max_trace_entries: 8,
     };
     let started = CompositionRegistry::new(first(0), 1, limits);
-    let windows = two_windows(started.registry);
-    let views = three_views(windows);
-    let panels = attached(attached(attached(views, 0, 0), 0, 1), 2, 0);
-    captured(panels)
+    captured(three_panels(three_views(two_windows(started.registry))))
+}
+
+fn with_window(registry: CompositionRegistry) -> CompositionRegistry {
+    let created = composition_panels::windows::create_window(registry);
+    created.registry
 }
 
 fn two_windows(registry: CompositionRegistry) -> CompositionRegistry {
-    let one = composition_panels::windows::create_window(registry);
-    let two = composition_panels::windows::create_window(one.registry);
-    let closed = composition_panels::windows::close_window(two.registry, first(1));
+    let two = with_window(with_window(registry));
+    let closed = composition_panels::windows::close_window(two, first(1));
     closed.registry
+}
+
+fn with_view(registry: CompositionRegistry) -> CompositionRegistry {
+    let created = composition_panels::views::create_view(registry, first(0));
+    created.registry
 }
 
 fn three_views(registry: CompositionRegistry) -> CompositionRegistry {
-    let one = composition_panels::views::create_view(registry, first(0));
-    let two = composition_panels::views::create_view(one.registry, first(0));
-    let three = composition_panels::views::create_view(two.registry, first(0));
-    let closed = composition_panels::views::close_view(three.registry, first(1));
+    let three = with_view(with_view(with_view(registry)));
+    let closed = composition_panels::views::close_view(three, first(1));
     closed.registry
 }
 
+fn three_panels(registry: CompositionRegistry) -> CompositionRegistry {
+    attached(attached(attached(registry, 0, 0), 0, 1), 2, 0)
+}
+
+fn capture_of(registry: CompositionRegistry, pointer: CompositionPointerId) -> CompositionRegistry {
+    let captured = composition_input::captures::capture_pointer_for(
+        registry,
+        pointer,
+        first(1),
+        registry.revision,
+    );
+    captured.registry
+}
+
 fn captured(registry: CompositionRegistry) -> CompositionRegistry {
-    let revision = registry.revision;
-    let primary = composition_input::captures::capture_pointer(registry, first(1), revision);
-    let pointer = maps::keys::CompositionPointerId {
+    let pointer = CompositionPointerId {
         device: 7,
         device_generation: 1,
         contact: 9,
     };
-    let second = composition_input::captures::capture_pointer_for(
-        primary.registry,
-        pointer,
-        first(1),
-        primary.registry.revision,
-    );
-    second.registry
+    capture_of(capture_of(registry, CompositionPointerId::PRIMARY), pointer)
 }
 
 fn main() {

@@ -2,17 +2,16 @@
 use composition_state::registry::CompositionRegistry;
 use handles::GenerationalHandle;
 use handles::OptionalHandle;
-use handles::arena::Arena;
 use handles::arena::Slot;
 use records::layers::Layers;
 use records::surface::SurfaceRecord;
 
 // Panel 2 taken out of its view's layers.
-fn outside_layers(registry: CompositionRegistry) -> CompositionRegistry {
-    let view = crate::first(2);
-    let record = registry.views.record(view);
-    let none = Layers::new();
-    registry.with_views(registry.views.with_record(view, record.with_surfaces(none)))
+fn outside_layers(mut registry: CompositionRegistry) -> CompositionRegistry {
+    let record = registry.views.record(crate::first(2));
+    let empty = record.with_surfaces(Layers::new());
+    registry.views = registry.views.with_record(crate::first(2), empty);
+    registry
 }
 
 fn owned_by(record: SurfaceRecord, view: GenerationalHandle) -> SurfaceRecord {
@@ -21,26 +20,11 @@ fn owned_by(record: SurfaceRecord, view: GenerationalHandle) -> SurfaceRecord {
     SurfaceRecord { descriptor }
 }
 
-// Panel 2, outside all layers, names a view that is not live.
-fn orphaned(registry: CompositionRegistry, view: GenerationalHandle) -> CompositionRegistry {
-    let outside = outside_layers(registry);
-    let surface = crate::first(2);
-    let record = outside.surfaces.record(surface);
-    outside.with_surfaces(
-        outside
-            .surfaces
-            .with_record(surface, owned_by(record, view)),
-    )
-}
-
-fn with_garbage(a: Arena) -> Arena {
-    let mut next = a;
-    next.slots[40] = Slot {
-        generation: 0,
-        filled: true,
-    };
-    next.free[40] = 99;
-    next
+// A registry whose panel 2, outside all layers, then names a view that is not live.
+fn orphaned(mut outside: CompositionRegistry, view: GenerationalHandle) -> CompositionRegistry {
+    let record = owned_by(outside.surfaces.record(crate::first(2)), view);
+    outside.surfaces = outside.surfaces.with_record(crate::first(2), record);
+    outside
 }
 
 fn ask_focus(name: &[u8], registry: CompositionRegistry, view: GenerationalHandle) {
@@ -60,11 +44,14 @@ fn ask_capture(name: &[u8], registry: CompositionRegistry) {
     crate::report(name, outcome);
 }
 
-fn ask_garbage(registry: CompositionRegistry) {
-    crate::ask(
-        b"odd: garbage in unused places",
-        registry.with_windows(with_garbage(registry.windows)),
-    );
+// What stands in places that no count reaches is read by nobody.
+fn ask_garbage(mut registry: CompositionRegistry) {
+    registry.windows.slots[40] = Slot {
+        generation: 0,
+        filled: true,
+    };
+    registry.windows.free[40] = 99;
+    crate::ask(b"odd: garbage in unused places", registry);
 }
 
 fn ask_outside(outside: CompositionRegistry) {
@@ -76,29 +63,35 @@ fn ask_outside(outside: CompositionRegistry) {
     );
 }
 
+// A view that is closed, by another generation, and one that never was.
+fn stale() -> GenerationalHandle {
+    GenerationalHandle {
+        index: 1,
+        generation: 9,
+    }
+}
+
+fn unknown() -> GenerationalHandle {
+    crate::first(3)
+}
+
+fn ask_stale(orphan: CompositionRegistry) {
+    ask_capture(b"odd: capture by a panel of a stale view", orphan);
+    ask_focus(
+        b"odd: focus in a stale view, its panel's own",
+        orphan,
+        stale(),
+    );
+}
+
+fn ask_unknown(orphan: CompositionRegistry) {
+    ask_capture(b"odd: capture by a panel of an unknown view", orphan);
+}
+
 pub fn ask_all(registry: CompositionRegistry) {
     ask_garbage(registry);
     ask_outside(outside_layers(registry));
-    let stale = GenerationalHandle {
-        index: 1,
-        generation: 9,
-    };
-    let unknown = GenerationalHandle {
-        index: 3,
-        generation: 1,
-    };
-    ask_capture(
-        b"odd: capture by a panel of a stale view",
-        orphaned(registry, stale),
-    );
-    ask_capture(
-        b"odd: capture by a panel of an unknown view",
-        orphaned(registry, unknown),
-    );
-    ask_focus(b"odd: focus in an unknown view", registry, unknown);
-    ask_focus(
-        b"odd: focus in a stale view, its panel's own",
-        orphaned(registry, stale),
-        stale,
-    );
+    ask_stale(orphaned(outside_layers(registry), stale()));
+    ask_unknown(orphaned(outside_layers(registry), unknown()));
+    ask_focus(b"odd: focus in an unknown view", registry, unknown());
 }

@@ -1,12 +1,10 @@
 // Reads of damaged states: a call that reads is 42 where the state that it reads is damaged, and a function that reads
-// a
-// plain field answers the stored field.
+// a plain field answers the stored field.
 use calls::arguments::InversePointArguments;
 use calls::call::ReadCall;
 use composition_state::registry::CompositionRegistry;
 use geometry::transform::Point;
 use geometry::transform::SurfaceTransform;
-use handles::arena::Arena;
 use input_router::router::PlatformInputRouter;
 
 fn ask(name: &[u8], registry: CompositionRegistry, router: PlatformInputRouter, call: ReadCall) {
@@ -15,39 +13,12 @@ fn ask(name: &[u8], registry: CompositionRegistry, router: PlatformInputRouter, 
     crate::report(name, outcome);
 }
 
-// A read of a damaged registry beside a sound router.
-fn ask_registry(name: &[u8], registry: CompositionRegistry, call: ReadCall) {
-    ask(name, miscounted(registry), crate::routers::base(), call);
-}
-
-// A read of a damaged router beside a sound registry.
-fn ask_router(name: &[u8], registry: CompositionRegistry, call: ReadCall) {
-    ask(name, registry, crate::routers::with_falling_keys(), call);
-}
-
-// A read beside a registry and a router that are both damaged.
-fn ask_both(name: &[u8], registry: CompositionRegistry, call: ReadCall) {
-    ask_router(name, miscounted(registry), call);
-}
-
-fn with_live(a: Arena, live: usize) -> Arena {
-    let mut next = a;
-    next.live = live;
-    next
-}
-
 // Live counts that are not the number of filled slots, a different one in each table.
-fn miscounted(registry: CompositionRegistry) -> CompositionRegistry {
-    let views = registry
-        .views
-        .with_arena(with_live(registry.views.arena, 12));
-    let surfaces = registry
-        .surfaces
-        .with_arena(with_live(registry.surfaces.arena, 13));
+fn miscounted(mut registry: CompositionRegistry) -> CompositionRegistry {
+    registry.windows.live = 11;
+    registry.views.arena.live = 12;
+    registry.surfaces.arena.live = 13;
     registry
-        .with_windows(with_live(registry.windows, 11))
-        .with_views(views)
-        .with_surfaces(surfaces)
 }
 
 fn origin() -> InversePointArguments {
@@ -89,45 +60,59 @@ fn show_fields(registry: CompositionRegistry) {
     );
 }
 
-fn ask_calls(registry: CompositionRegistry) {
-    ask_registry(
+// Reads of a damaged registry beside a sound router.
+fn ask_registry(damaged: CompositionRegistry, router: PlatformInputRouter) {
+    ask(
         b"reads: traces, the registry damaged",
-        registry,
+        damaged,
+        router,
         ReadCall::Traces,
     );
-    ask_registry(
+    ask(
         b"reads: counts, the registry damaged",
-        registry,
+        damaged,
+        router,
         ReadCall::Counts,
     );
-    ask_registry(
+    ask(
         b"reads: open presses, the registry damaged",
-        registry,
+        damaged,
+        router,
         ReadCall::ActiveBindingCount,
-    );
-    ask_router(
-        b"reads: traces, the router damaged",
-        registry,
-        ReadCall::Traces,
-    );
-    ask_router(
-        b"reads: counts, the router damaged",
-        registry,
-        ReadCall::Counts,
-    );
-    ask_router(
-        b"reads: open presses, the router damaged",
-        registry,
-        ReadCall::ActiveBindingCount,
-    );
-    ask_both(
-        b"reads: an inverse point, both damaged",
-        registry,
-        ReadCall::InversePoint(origin()),
     );
 }
 
-fn show_open_presses(router: PlatformInputRouter) {
+// Reads of a damaged router beside a sound registry.
+fn ask_router(registry: CompositionRegistry, damaged: PlatformInputRouter) {
+    ask(
+        b"reads: traces, the router damaged",
+        registry,
+        damaged,
+        ReadCall::Traces,
+    );
+    ask(
+        b"reads: counts, the router damaged",
+        registry,
+        damaged,
+        ReadCall::Counts,
+    );
+    ask(
+        b"reads: open presses, the router damaged",
+        registry,
+        damaged,
+        ReadCall::ActiveBindingCount,
+    );
+}
+
+// A read of neither, where both are damaged.
+fn ask_neither(registry: CompositionRegistry, router: PlatformInputRouter) {
+    ask(
+        b"reads: an inverse point, both damaged",
+        registry,
+        router,
+        ReadCall::InversePoint(origin()),
+    );
+    show_fields(registry);
     show(
         b"plain: open presses of a damaged router",
         router.active_binding_count() as u64,
@@ -135,7 +120,7 @@ fn show_open_presses(router: PlatformInputRouter) {
 }
 
 pub fn ask_all(registry: CompositionRegistry) {
-    ask_calls(registry);
-    show_fields(miscounted(registry));
-    show_open_presses(crate::routers::with_falling_keys());
+    ask_registry(miscounted(registry), crate::routers::base());
+    ask_router(registry, crate::routers::with_falling_keys());
+    ask_neither(miscounted(registry), crate::routers::with_falling_keys());
 }

@@ -3,11 +3,12 @@
 // refused: the refusal's number, the front part, and the whole buffer after the test.
 mod opening;
 
-use crate::opening::Opened;
+use crate::opening::first;
 use crate::opening::open;
 use answer_text::put::put_byte;
 use answer_text::put::put_u64;
 use composition_hits::stack::hit_test_stack;
+use composition_state::registry::CompositionRegistry;
 use geometry::transform::Point;
 use libc::STDOUT_FILENO;
 
@@ -24,13 +25,13 @@ fn put_numbers(out: &mut [u8], at: usize, numbers: &[u64]) -> usize {
 }
 
 // A hit test in the first view, at the point 0, 0.
-fn put_test(out: &mut [u8], at: usize, opened: Opened, buffer: &mut [u64]) -> usize {
+fn put_test(out: &mut [u8], at: usize, registry: CompositionRegistry, buffer: &mut [u64]) -> usize {
     let point = Point {
         x_milli: 0,
         y_milli: 0,
     };
     let mut refusal: u64 = 0;
-    let front = hit_test_stack(opened.registry, opened.view, point, buffer, &mut refusal);
+    let front = hit_test_stack(registry, first(), point, buffer, &mut refusal);
     let named = put_u64(out, at, refusal);
     let line = put_byte(out, named, b'\n');
     let listed = put_numbers(out, line, front);
@@ -45,11 +46,11 @@ fn write_front(text: &[u8], len: usize) {
 }
 
 fn main() {
-    let opened = open();
+    let registry = open();
     let mut text = [0u8; 512];
     let mut long = [7u64; 34];
-    let half = put_test(&mut text, 0, opened, &mut long);
+    let half = put_test(&mut text, 0, registry, &mut long);
     let mut short = [7u64; 31];
-    let end = put_test(&mut text, half, opened, &mut short);
+    let end = put_test(&mut text, half, registry, &mut short);
     write_front(&text, end);
 }

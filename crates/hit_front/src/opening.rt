@@ -6,21 +6,15 @@ use composition_state::registry::CompositionLimits;
 use composition_state::registry::CompositionRegistry;
 use geometry::surface::SurfaceGeometry;
 use handles::GenerationalHandle;
-use handles::OptionalHandle;
 use records::surface::SurfaceDescriptor;
 use records::surface::SurfaceInputPolicy;
 use records::surface::SurfaceKind;
 
-pub struct Opened {
-    pub view: GenerationalHandle,
-    pub registry: CompositionRegistry,
-}
-
-// Every later call refuses the handle of a call that was refused.
-fn issued(handle: OptionalHandle) -> GenerationalHandle {
-    match handle {
-        OptionalHandle::None => GenerationalHandle::INVALID,
-        OptionalHandle::Some(made) => made,
+// The handle of the first window, and of the first view.
+pub fn first() -> GenerationalHandle {
+    GenerationalHandle {
+        index: 0,
+        generation: 1,
     }
 }
 
@@ -35,10 +29,10 @@ fn limits() -> CompositionLimits {
 }
 
 // A panel with no bounds, open to hit tests.
-fn panel(view: GenerationalHandle) -> SurfaceDescriptor {
+fn panel() -> SurfaceDescriptor {
     let geometry = SurfaceGeometry::default();
     SurfaceDescriptor {
-        view,
+        view: first(),
         kind: SurfaceKind::Ui,
         z_order: 0,
         input: SurfaceInputPolicy::Interactive,
@@ -47,19 +41,22 @@ fn panel(view: GenerationalHandle) -> SurfaceDescriptor {
     }
 }
 
-pub fn open() -> Opened {
-    let session = GenerationalHandle {
-        index: 0,
-        generation: 1,
-    };
-    let start = CompositionRegistry::new(session, 1, limits());
-    let first = create_window(start.registry);
-    let made = first.handle;
-    let second = create_view(first.registry, issued(made));
-    let shown = second.handle;
-    let view = issued(shown);
-    let lower = attach_surface(second.registry, panel(view));
-    let upper = attach_surface(lower.registry, panel(view));
-    let registry = upper.registry;
-    Opened { view, registry }
+fn with_window(registry: CompositionRegistry) -> CompositionRegistry {
+    let created = create_window(registry);
+    created.registry
+}
+
+fn with_view(registry: CompositionRegistry) -> CompositionRegistry {
+    let created = create_view(registry, first());
+    created.registry
+}
+
+fn with_panel(registry: CompositionRegistry) -> CompositionRegistry {
+    let attached = attach_surface(registry, panel());
+    attached.registry
+}
+
+pub fn open() -> CompositionRegistry {
+    let started = CompositionRegistry::new(first(), 1, limits());
+    with_panel(with_panel(with_view(with_window(started.registry))))
 }

@@ -16,9 +16,9 @@ use Rattle.book.specs.Book.{Asked}
 use Rattle.history.specs.Histories.{after}
 use Rattle.history.proofs.HistoryLaws.{demand-3, never-damaged}
 use Rattle.in_place_history.specs.Entries.{noLists}
-use Rattle.host_calls.specs.Calls.{called, made, untouched}
-use Rattle.host_calls.specs.Routes.{routeCalled, routeMade, untouchedRoute}
-use Rattle.host_calls.proofs.ClaimLaws.{claims as host-claims}
+use Rattle.nibcobalt.specs.Calls.{called, made, untouched}
+use Rattle.nibcobalt.specs.Routes.{routeCalled, routeMade, untouchedRoute}
+use Rattle.nibcobalt.proofs.ClaimLaws.{claims as host-claims}
 use Rattle.host_history.specs.Claims.{Demand3OfHosts, stepOn}
 use Rattle.host_history.specs.Sent.{Sent, call, route, buffer, refusal, memoryLeft, bufferLeft, askedBy, memoryAfter, calls}
 

@@ -11,10 +11,10 @@ use Rattle.book.specs.Book.{Asked}
 use Rattle.in_place_history.specs.Entries.{noLists}
 use Rattle.host_message.specs.declared.message.Message.{Message}
 use Rattle.host_message.specs.Messages.{isMessage, listsOf}
-use Rattle.host_calls.specs.declared.direct_route.RouteMessage.{RouteMessage}
-use Rattle.host_calls.specs.Calls.{called}
-use Rattle.host_calls.specs.Routes.{isRouteForm, routeCalled}
-use Rattle.host_calls.specs.Status.{refusalOf}
+use Rattle.nibcobalt.specs.declared.direct_route.RouteMessage.{RouteMessage}
+use Rattle.nibcobalt.specs.Calls.{called}
+use Rattle.nibcobalt.specs.Routes.{isRouteForm, routeCalled}
+use Rattle.nibcobalt.specs.Status.{refusalOf}
 
 -- a message or a route message, with the buffer that is lent beside it
 pub data Sent : Type 0 where

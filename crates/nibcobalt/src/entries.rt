@@ -1,16 +1,16 @@
-// The exported functions. Each is a function of `host_calls` with its states lent; what stands behind the references at
+// The exported functions. Each is a function of the modules beside this one with its states lent; what stands behind the references at
 // exit, and the answer, are that function's.
 ghost use mathlib.Core.Path.{_≡_};
-ghost use Rattle.host_calls.specs.Fresh.{startedMemory};
-ghost use Rattle.host_calls.specs.Calls.{called};
-ghost use Rattle.host_calls.specs.Routes.{routeCalled};
+ghost use Rattle.nibcobalt.specs.Fresh.{startedMemory};
+ghost use Rattle.nibcobalt.specs.Calls.{called};
+ghost use Rattle.nibcobalt.specs.Routes.{routeCalled};
+use crate::any_call::call;
+use crate::direct_route::RouteMessage;
+use crate::direct_route::route;
+use crate::fresh::Start;
+use crate::fresh::start_counter;
+use crate::status::Status;
 use counter_memory::memory::CounterMemory;
-use host_calls::any_call::call;
-use host_calls::direct_route::RouteMessage;
-use host_calls::direct_route::route;
-use host_calls::fresh::Start;
-use host_calls::fresh::start_counter;
-use host_calls::status::Status;
 use host_message::message::Message;
 
 // A fresh counter. A refusal's number is one of REFUSALS.md, and leaves the memory as it was.

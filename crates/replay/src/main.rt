@@ -1,17 +1,21 @@
 // Runs a script from standard input and writes one answer line for each call.
+mod answered;
+mod lines;
 mod messages;
+mod session;
+mod starts;
 
+use crate::lines::answer_bytes;
+use crate::lines::first_session;
+use crate::lines::next_answer;
+use crate::session::Session;
 use libc::STDIN_FILENO;
 use libc::STDOUT_FILENO;
-use replay_lines::answer_bytes;
-use replay_lines::first_session;
-use replay_lines::next_answer;
-use replay_session::session::Session;
 ghost use Prim.Native.Nat.{_≤_};
 ghost use mathlib.Core.List.{[]};
 ghost use mathlib.Core.Path.{_≡_};
 ghost use lib.ListN.{length};
-ghost use Rattle.replay_lines.specs.Turns.{Held, servingOf, heldOf, heldIn, chunkServed};
+ghost use Rattle.replay.specs.Turns.{Held, servingOf, heldOf, heldIn, chunkServed};
 
 // How many lines have ended, and whether every answer so far could be written.
 struct Told {

@@ -7,8 +7,8 @@ use lib.ListN.{length}
 use borrow.Author.Needs.{needs}
 use Rattle.line_input.specs.LineInput.{nextPlace}
 use Rattle.line_input.proofs.InputLaws.{advances}
-use Rattle.replay_lines.specs.Turns.{servingOf}
-use Rattle.replay_lines.proofs.LoopLaws.{Leads, leads-start, leads-turn, leads-done}
+use Rattle.replay.specs.Turns.{servingOf}
+use Rattle.replay.proofs.LoopLaws.{Leads, leads-start, leads-turn, leads-done}
 use Rattle.replay.proofs.answer_chunk.Statement.{statement}
 use Rattle.replay.proofs.answer_chunk.Tie as tie
 

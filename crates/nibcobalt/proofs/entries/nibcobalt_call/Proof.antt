@@ -5,13 +5,13 @@ use Rattle.counter_memory.proofs.memory.CounterMemory as Memory
 use Rattle.counter_memory.proofs.memory.CounterMemory.Laws as MemoryLaws
 use Rattle.host_message.proofs.message.Message as Message
 use Rattle.host_message.proofs.message.Message.Laws as MessageLaws
-use Rattle.host_calls.specs.declared.any_call.Called.{Called}
-use Rattle.host_calls.specs.Calls.{called}
-use Rattle.host_calls.proofs.status.Status as Status
-use Rattle.host_calls.proofs.status.Status.Laws as StatusLaws
-use Rattle.host_calls.proofs.any_call.Called as Done
-use Rattle.host_calls.proofs.any_call.call.Symbol as callee
-use Rattle.host_calls.proofs.any_call.call.Met as callee-met
+use Rattle.nibcobalt.specs.declared.any_call.Called.{Called}
+use Rattle.nibcobalt.specs.Calls.{called}
+use Rattle.nibcobalt.proofs.status.Status as Status
+use Rattle.nibcobalt.proofs.status.Status.Laws as StatusLaws
+use Rattle.nibcobalt.proofs.any_call.Called as Done
+use Rattle.nibcobalt.proofs.any_call.call.Symbol as callee
+use Rattle.nibcobalt.proofs.any_call.call.Met as callee-met
 use Rattle.in_place.proofs.TwoLentBuffer.{entry}
 use Rattle.nibcobalt.proofs.entries.nibcobalt_call.Key as own
 use Rattle.nibcobalt.proofs.entries.nibcobalt_call.Statement.{statement}

@@ -3,15 +3,15 @@ use mathlib.Core.List.{[]}
 use denote.Memory.{pointee}
 use Rattle.counter_memory.proofs.memory.CounterMemory as Memory
 use Rattle.counter_memory.proofs.memory.CounterMemory.Laws as MemoryLaws
-use Rattle.host_calls.proofs.direct_route.RouteMessage as Message
-use Rattle.host_calls.proofs.direct_route.RouteMessage.Laws as MessageLaws
-use Rattle.host_calls.specs.declared.direct_route.RouteCalled.{RouteCalled}
-use Rattle.host_calls.specs.Routes.{routeCalled}
-use Rattle.host_calls.proofs.status.Status as Status
-use Rattle.host_calls.proofs.status.Status.Laws as StatusLaws
-use Rattle.host_calls.proofs.direct_route.RouteCalled as Done
-use Rattle.host_calls.proofs.direct_route.route.Symbol as callee
-use Rattle.host_calls.proofs.direct_route.route.Met as callee-met
+use Rattle.nibcobalt.proofs.direct_route.RouteMessage as Message
+use Rattle.nibcobalt.proofs.direct_route.RouteMessage.Laws as MessageLaws
+use Rattle.nibcobalt.specs.declared.direct_route.RouteCalled.{RouteCalled}
+use Rattle.nibcobalt.specs.Routes.{routeCalled}
+use Rattle.nibcobalt.proofs.status.Status as Status
+use Rattle.nibcobalt.proofs.status.Status.Laws as StatusLaws
+use Rattle.nibcobalt.proofs.direct_route.RouteCalled as Done
+use Rattle.nibcobalt.proofs.direct_route.route.Symbol as callee
+use Rattle.nibcobalt.proofs.direct_route.route.Met as callee-met
 use Rattle.in_place.proofs.TwoLentBuffer.{entry}
 use Rattle.nibcobalt.proofs.entries.nibcobalt_route.Key as own
 use Rattle.nibcobalt.proofs.entries.nibcobalt_route.Statement.{statement}

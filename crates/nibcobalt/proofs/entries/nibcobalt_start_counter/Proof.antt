@@ -3,15 +3,15 @@ use mathlib.Core.List.{[]}
 use denote.Memory.{pointee}
 use Rattle.counter_memory.proofs.memory.CounterMemory as Memory
 use Rattle.counter_memory.proofs.memory.CounterMemory.Laws as MemoryLaws
-use Rattle.host_calls.proofs.fresh.Start as Start
-use Rattle.host_calls.proofs.fresh.Start.Laws as StartLaws
-use Rattle.host_calls.specs.declared.fresh.Started.{Started}
-use Rattle.host_calls.specs.Fresh.{startedMemory}
-use Rattle.host_calls.proofs.status.Status as Status
-use Rattle.host_calls.proofs.status.Status.Laws as StatusLaws
-use Rattle.host_calls.proofs.fresh.Started as Done
-use Rattle.host_calls.proofs.fresh.start_counter.Symbol as callee
-use Rattle.host_calls.proofs.fresh.start_counter.Met as callee-met
+use Rattle.nibcobalt.proofs.fresh.Start as Start
+use Rattle.nibcobalt.proofs.fresh.Start.Laws as StartLaws
+use Rattle.nibcobalt.specs.declared.fresh.Started.{Started}
+use Rattle.nibcobalt.specs.Fresh.{startedMemory}
+use Rattle.nibcobalt.proofs.status.Status as Status
+use Rattle.nibcobalt.proofs.status.Status.Laws as StatusLaws
+use Rattle.nibcobalt.proofs.fresh.Started as Done
+use Rattle.nibcobalt.proofs.fresh.start_counter.Symbol as callee
+use Rattle.nibcobalt.proofs.fresh.start_counter.Met as callee-met
 use Rattle.in_place.proofs.TwoLent.{entry}
 use Rattle.nibcobalt.proofs.entries.nibcobalt_start_counter.Key as own
 use Rattle.nibcobalt.proofs.entries.nibcobalt_start_counter.Statement.{statement}

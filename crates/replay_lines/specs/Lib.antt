@@ -1,4 +1,0 @@
-pub mod Replay
-pub mod Texts
-pub mod Turns
-pub mod Claims

@@ -1,3 +1,0 @@
-pub mod Starts
-pub mod Sessions
-pub mod Lines
