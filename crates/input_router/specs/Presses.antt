@@ -23,8 +23,8 @@ heldBy r key = surfaceOf (found bindings keyOfBinding (bindingKey key) (r .bindi
 
 -- the press is open already, or the open presses are below the limit
 abbrev pub hasRoomWith : OptionalHandle → ℕ → ℕ → Bool
-hasRoomWith None open-presses limit = ltb open-presses limit
-hasRoomWith (Some surface) open-presses limit = true
+hasRoomWith None count limit = ltb count limit
+hasRoomWith (Some surface) count limit = true
 
 abbrev pub hasRoom : PlatformInputRouter → BindingKey → Bool
 hasRoom r key = hasRoomWith (heldBy r key) (length (pressesOf r)) (r .«max_active_bindings»)

@@ -23,7 +23,7 @@ fn is_old(last: OptionalSequence, sequence: u64) -> bool
 }
 
 // Whether a device with this last number is known, or a place is left for it beside the known devices.
-pub fn has_place_with(last: OptionalSequence, known: usize) -> bool
+fn has_place_with(last: OptionalSequence, known: usize) -> bool
     ensures { λ r. ⌜ r ≡ hasPlaceWith last known ⌝ }
 {
     match last {

@@ -8,11 +8,11 @@ use maps::bindings::Binding;
 use maps::keys::BindingKey;
 
 // Whether a press that this panel holds is open already, or one more may be opened.
-pub fn has_room_with(holder: OptionalHandle, open: usize, limit: u64) -> bool
-    ensures { λ r. ⌜ r ≡ hasRoomWith holder open limit ⌝ }
+pub fn has_room_with(holder: OptionalHandle, count: usize, limit: u64) -> bool
+    ensures { λ r. ⌜ r ≡ hasRoomWith holder count limit ⌝ }
 {
     match holder {
-        OptionalHandle::None => (open as u64) < limit,
+        OptionalHandle::None => (count as u64) < limit,
         OptionalHandle::Some(_) => true,
     }
 }
