@@ -5,12 +5,13 @@ use lib.Dec.{eqb, ltb, leb}
 use lib.IntN.{ℤ, pos, negℤ}
 use lib.Signed.{leZ}
 use Rattle.handles.specs.Handles.{sameHandle}
+use Rattle.handles.specs.declared.GenerationalHandle.{GenerationalHandle}
 use Rattle.maps.specs.Keys.{deviceValid}
 use Rattle.maps.specs.declared.keys.InputDeviceId.{InputDeviceId}
 use Rattle.records.specs.declared.error.CompositionError.the-variants.{RevisionConflict}
-use Rattle.records.specs.declared.view.ViewRecord.{ViewRecord}
 use Rattle.records.specs.declared.view.ViewTable.{ViewTable}
 use Rattle.records.specs.Views.{viewAt, viewRefusal}
+use Rattle.input_events.specs.declared.checks.FoundView.{FoundView}
 use Rattle.input_events.specs.declared.error.PlatformInputError.the-variants as error
 use Rattle.input_events.specs.declared.error.RouterOutcome.{RouterOutcome}
 use Rattle.input_events.specs.declared.error.RouterOutcome.the-variants.{Accepted}
@@ -68,26 +69,40 @@ payloadRefusal DeviceDisconnected = Accepted
 abbrev pub deviceRefusal : InputDeviceId → RouterOutcome
 deviceRefusal d = routerRefusalIf (not (deviceValid d)) error.InvalidDevice
 
+-- what is found of a view: 8/9, its window and the revision of its metrics
+abbrev pub foundView : ViewTable → GenerationalHandle → FoundView
+foundView views view =
+    record {
+      unknown = viewRefusal views view;
+      window = viewAt views view .window;
+      «metrics_revision» = viewAt views view .metrics .revision;
+    }
+
 -- 39: the view's window is not the header's
-abbrev pub windowRefusal : ViewRecord → PlatformInputHeader → RouterOutcome
+abbrev pub windowRefusal : FoundView → PlatformInputHeader → RouterOutcome
 windowRefusal v h = routerRefusalIf (not (sameHandle (v .window) (h .window))) error.InvalidWindow
 
 -- 20: the revision of the view's metrics is not the header's
-abbrev pub metricsRefusal : ViewRecord → PlatformInputHeader → RouterOutcome
+abbrev pub metricsRefusal : FoundView → PlatformInputHeader → RouterOutcome
 metricsRefusal v h =
-    routerRefusalIf (not (eqb (v .metrics .revision) (h .«metrics_revision»))) (error.Composition RevisionConflict)
+    routerRefusalIf (not (eqb (v .«metrics_revision») (h .«metrics_revision»))) (error.Composition RevisionConflict)
 
--- "8/9, 39, 20 (metrics revision)"
-unfoldable pub headerRefusal : ViewTable → PlatformInputHeader → RouterOutcome
-headerRefusal views h =
-    let v = viewAt views (h .view) in
-    thenRouterRefusal (fromComposition (viewRefusal views (h .view)))
+-- "8/9, 39, 20 (metrics revision)", by what is found of the header's view, and with the table of views
+unfoldable pub headerRefusalIn : FoundView → PlatformInputHeader → RouterOutcome
+headerRefusalIn v h =
+    thenRouterRefusal (fromComposition (v .unknown))
     (thenRouterRefusal (windowRefusal v h)
     (metricsRefusal v h))
 
+abbrev pub headerRefusal : ViewTable → PlatformInputHeader → RouterOutcome
+headerRefusal views h = headerRefusalIn (foundView views (h .view)) h
+
 -- "31, 8/9, 39, 20 (metrics revision), then 34, 35, 36, 37 or 38 by payload"
-unfoldable pub eventRefusal : ViewTable → PlatformInputEvent → RouterOutcome
-eventRefusal views e =
+abbrev pub eventRefusalIn : FoundView → PlatformInputEvent → RouterOutcome
+eventRefusalIn v e =
     thenRouterRefusal (deviceRefusal (e .header .device))
-    (thenRouterRefusal (headerRefusal views (e .header))
+    (thenRouterRefusal (headerRefusalIn v (e .header))
     (payloadRefusal (e .payload)))
+
+unfoldable pub eventRefusal : ViewTable → PlatformInputEvent → RouterOutcome
+eventRefusal views e = eventRefusalIn (foundView views (e .header .view)) e

@@ -1,8 +1,9 @@
 // What an event is refused for before the router's own state is asked.
 ghost use mathlib.Core.Path.{_≡_};
-ghost use Rattle.input_events.specs.Checks.{contactRefusal, isTiltAllowed, pointerRefusal, selectionRefusal, shortcutRefusal, payloadRefusal, deviceRefusal, windowRefusal, metricsRefusal, headerRefusal, eventRefusal};
+ghost use Rattle.input_events.specs.Checks.{contactRefusal, isTiltAllowed, pointerRefusal, selectionRefusal, shortcutRefusal, payloadRefusal, deviceRefusal, foundView, windowRefusal, metricsRefusal, headerRefusalIn, eventRefusalIn, eventRefusal};
 use crate::error::PlatformInputError;
 use crate::error::RouterOutcome;
+use crate::error::from_composition;
 use crate::error::refuse_if;
 use crate::event::CompositionInput;
 use crate::event::PlatformInputEvent;
@@ -10,11 +11,12 @@ use crate::event::PlatformInputHeader;
 use crate::event::PlatformInputPayload;
 use crate::event::PointerInput;
 use crate::event::ShortcutInput;
+use handles::GenerationalHandle;
 use handles::same_handle;
 use lists::both;
 use maps::keys::InputDeviceId;
 use records::error::CompositionError;
-use records::view::ViewRecord;
+use records::error::Outcome;
 use records::view::ViewTable;
 
 fn contact_refusal(contact: u32) -> RouterOutcome
@@ -87,42 +89,70 @@ pub fn device_refusal(device: InputDeviceId) -> RouterOutcome
     refuse_if(!device.is_valid(), PlatformInputError::InvalidDevice)
 }
 
-fn window_refusal(record: ViewRecord, header: PlatformInputHeader) -> RouterOutcome
-    ensures { λ r. ⌜ r ≡ windowRefusal «record» header ⌝ }
+// What is found of a header's view: why it is no live view, its window and the revision of its metrics.
+pub struct FoundView {
+    pub unknown: Outcome,
+    pub window: GenerationalHandle,
+    pub metrics_revision: u64,
+}
+
+// Looks a view up in its table.
+pub fn find_view(views: ViewTable, view: GenerationalHandle) -> FoundView
+    ensures { λ r. ⌜ r ≡ foundView views view ⌝ }
+{
+    let record = views.record(view);
+    let window = record.window;
+    let unknown = views.refusal(view);
+    FoundView {
+        unknown,
+        window,
+        metrics_revision: record.metrics.revision,
+    }
+}
+
+fn window_refusal(found: FoundView, header: PlatformInputHeader) -> RouterOutcome
+    ensures { λ r. ⌜ r ≡ windowRefusal found header ⌝ }
 {
     refuse_if(
-        !same_handle(record.window, header.window),
+        !same_handle(found.window, header.window),
         PlatformInputError::InvalidWindow,
     )
 }
 
-fn metrics_refusal(record: ViewRecord, header: PlatformInputHeader) -> RouterOutcome
-    ensures { λ r. ⌜ r ≡ metricsRefusal «record» header ⌝ }
+fn metrics_refusal(found: FoundView, header: PlatformInputHeader) -> RouterOutcome
+    ensures { λ r. ⌜ r ≡ metricsRefusal found header ⌝ }
 {
     refuse_if(
-        record.metrics.revision != header.metrics_revision,
+        found.metrics_revision != header.metrics_revision,
         PlatformInputError::Composition(CompositionError::RevisionConflict),
     )
 }
 
 // What a header is refused for: its view, the window of that view, and the revision of its metrics.
-pub fn header_refusal(views: ViewTable, header: PlatformInputHeader) -> RouterOutcome
-    ensures { λ r. ⌜ r ≡ headerRefusal views header ⌝ }
+pub fn header_refusal_in(found: FoundView, header: PlatformInputHeader) -> RouterOutcome
+    ensures { λ r. ⌜ r ≡ headerRefusalIn found header ⌝ }
 {
-    let record = views.record(header.view);
-    let unknown = crate::error::from_composition(views.refusal(header.view));
-    let window = window_refusal(record, header);
-    let metrics = metrics_refusal(record, header);
+    let outcome = found.unknown;
+    let unknown = from_composition(outcome);
+    let window = window_refusal(found, header);
+    let metrics = metrics_refusal(found, header);
     unknown.then(window.then(metrics))
 }
 
-// What an event is refused for, whatever the router holds.
-pub fn event_refusal(views: ViewTable, event: PlatformInputEvent) -> RouterOutcome
-    ensures { λ r. ⌜ r ≡ eventRefusal views event ⌝ }
+// What an event is refused for, by what is found of its view and whatever the router holds.
+pub fn event_refusal_in(found: FoundView, event: PlatformInputEvent) -> RouterOutcome
+    ensures { λ r. ⌜ r ≡ eventRefusalIn found event ⌝ }
 {
     let payload = event.payload;
     let by_device = device_refusal(event.header.device);
-    let by_header = header_refusal(views, event.header);
+    let by_header = header_refusal_in(found, event.header);
     let by_payload = payload_refusal(payload);
     by_device.then(by_header.then(by_payload))
+}
+
+// The same with the table of views.
+pub fn event_refusal(views: ViewTable, event: PlatformInputEvent) -> RouterOutcome
+    ensures { λ r. ⌜ r ≡ eventRefusal views event ⌝ }
+{
+    event_refusal_in(find_view(views, event.header.view), event)
 }

@@ -1,6 +1,6 @@
 // The checks of an event before anything is written.
 ghost use mathlib.Core.Path.{_≡_};
-ghost use Rattle.input_route.specs.Checks.{roomRefusal, orderRefusal, refusalWith};
+ghost use Rattle.input_route.specs.Checks.{roomRefusal, refusalOfOrder, orderRefusal, refusalWith};
 use input_events::checks::event_refusal;
 use input_events::error::PlatformInputError;
 use input_events::error::RouterOutcome;
@@ -25,15 +25,22 @@ fn room_refusal(router: PlatformInputRouter, event: PlatformInputEvent) -> Route
     }
 }
 
-fn order_refusal(router: PlatformInputRouter, header: PlatformInputHeader) -> RouterOutcome
-    ensures { λ r. ⌜ r ≡ orderRefusal router header ⌝ }
+// What an event is refused for by its order.
+pub fn refusal_of_order(order: Order) -> RouterOutcome
+    ensures { λ r. ⌜ r ≡ refusalOfOrder order ⌝ }
 {
-    match router.order_of(header.device, header.sequence, header.timestamp_micros) {
+    match order {
         Order::InOrder => RouterOutcome::Accepted,
         Order::InvalidSequence => RouterOutcome::Refused(PlatformInputError::InvalidSequence),
         Order::InvalidTimestamp => RouterOutcome::Refused(PlatformInputError::InvalidTimestamp),
         Order::PortLimit => RouterOutcome::Refused(PlatformInputError::PortLimit),
     }
+}
+
+fn order_refusal(router: PlatformInputRouter, header: PlatformInputHeader) -> RouterOutcome
+    ensures { λ r. ⌜ r ≡ orderRefusal router header ⌝ }
+{
+    refusal_of_order(router.order_of(header.device, header.sequence, header.timestamp_micros))
 }
 
 // The first refusal of an event, with what the damage test of the registry says.

@@ -1,6 +1,8 @@
 // One event, routed: its checks, what is recorded, and then the disconnect, the loss or the arbitration.
 ghost use mathlib.Core.Path.{_≡_};
-ghost use Rattle.input_route.specs.Route.{heldFor, hitsFor, tracked, arbitratedReport, recordedEvent, routed};
+ghost use mathlib.Core.Bool.{true};
+ghost use Rattle.composition_state.specs.Damage.{isSound};
+ghost use Rattle.input_route.specs.Route.{heldFor, hitsFor, tracked, arbitratedReport, routedArbitration, recordedEvent, routed};
 use crate::checks::route_refusal;
 use composition_arbitration::arbitrate::ArbitrationResult;
 use composition_arbitration::arbitrate::decide;
@@ -31,9 +33,7 @@ use input_releases::answer::refused;
 use input_releases::losses::route_disconnect;
 use input_releases::losses::route_loss;
 use input_router::router::PlatformInputRouter;
-use records::error::CompositionError;
 use records::error::Outcome;
-use records::error::refuse_if;
 use records::trace::Hits;
 use release_lists::releases::Releases;
 
@@ -99,8 +99,48 @@ fn record_event(router: PlatformInputRouter, event: PlatformInputEvent) -> Platf
     )
 }
 
+// An event that is arbitrated, in a registry that has passed the damage test: who gets it, the trace of it, and the
+// presses after it. Nothing but the last step makes another registry: each would be a copy.
+fn route_arbitrated(
+    registry: CompositionRegistry,
+    router: PlatformInputRouter,
+    event: PlatformInputEvent,
+) -> Routed
+    requires { ⌜ isSound registry ≡ true ⌝ }
+    ensures { λ r. ⌜ r ≡ routedArbitration registry router event ⌝ }
+{
+    let asked = arbitration_event(event, held_for(router, event));
+    let decision = decide(
+        Outcome::Accepted,
+        registry,
+        event.header.view,
+        asked,
+        hits_for(registry, event),
+    );
+    let trace = decision.trace;
+    let outcome = decision.outcome;
+    if let Outcome::Refused(error) = outcome {
+        return refused(PlatformInputError::Composition(error), registry, router);
+    }
+    let consumer = trace.consumed_by;
+    let traces = push_trace(registry.traces, registry.limits.max_trace_entries, trace);
+    let tracked = track(
+        router,
+        effect_of(event),
+        receiver(consumer, trace.deliveries),
+    );
+    let report = arbitrated_report(result_of(trace));
+    let after = with_traces_at(registry, traces, trace.revision);
+    Routed {
+        outcome: RouterOutcome::Accepted,
+        report,
+        registry: after,
+        router: tracked,
+    }
+}
+
+// The checks, what is recorded, and one of three: a disconnect, a view's loss or an arbitrated event.
 // Sequence and time stay recorded once the checks have passed, whatever the work then refuses.
-// The registry is tested for damage once, and nothing but the last step makes another of it: each would be a copy.
 pub fn route(
     registry: CompositionRegistry,
     router: PlatformInputRouter,
@@ -120,33 +160,5 @@ pub fn route(
     if is_loss(payload) {
         return route_loss(registry, recorded, event.header.view);
     }
-    let asked = arbitration_event(event, held_for(recorded, event));
-    let damage = refuse_if(!sound, CompositionError::Damaged);
-    let decision = decide(
-        damage,
-        registry,
-        event.header.view,
-        asked,
-        hits_for(registry, event),
-    );
-    let trace = decision.trace;
-    let outcome = decision.outcome;
-    if let Outcome::Refused(error) = outcome {
-        return refused(PlatformInputError::Composition(error), registry, recorded);
-    }
-    let consumer = trace.consumed_by;
-    let traces = push_trace(registry.traces, registry.limits.max_trace_entries, trace);
-    let tracked = track(
-        recorded,
-        effect_of(event),
-        receiver(consumer, trace.deliveries),
-    );
-    let report = arbitrated_report(result_of(trace));
-    let after = with_traces_at(registry, traces, trace.revision);
-    Routed {
-        outcome: RouterOutcome::Accepted,
-        report,
-        registry: after,
-        router: tracked,
-    }
+    route_arbitrated(registry, recorded, event)
 }

@@ -42,6 +42,7 @@ use Rattle.input_router.specs.ViewReleases.{kindOf, isClosed, closedBind
 use Rattle.input_router.specs.Claims.{RouterClaims}
 use Rattle.lists.proofs.KeepLaws.{keep-in, keep-apart}
 use Rattle.release_lists.proofs.ReleaseLaws.{by-panel-length, by-panel-keeps, by-panel-ordered, presses-first, captures-listed}
+use Rattle.input_router.proofs.OrderLaws.{place-is}
 use Rattle.input_router.proofs.SoundLaws as sound
 
 start-sound : (n : ℕ) → isRouterSound (started n .router) ≡ isStarted (startOutcome n)
@@ -54,11 +55,11 @@ start-sound n = by-test (isStarted (startOutcome n))
 recorded-sound : (r : PlatformInputRouter) (d : InputDeviceId) (n time : ℕ) → isRouterSound r ≡ true → isRouterSound (recorded r d n time) ≡ true
 recorded-sound r d n time h =
     let s = sound.parts r h in
-    by-test (hasPlace r d n)
+    by-test (hasPlace r d)
     (λ t.
     let few : length (entriesOf sequences (r .«device_sequences»)) ≤ 32 = omega (arith, sound.short sequences (r .«device_sequences»), s .devices) in
     rw t (sound.whole _ (sound.time-sound _ time (sound.devices-sound r _ s
-    (maps.accepted-fits sequences sequenceKey (r .«device_sequences») (sequenceEntry d n) few t)
+    (maps.accepted-fits sequences sequenceKey (r .«device_sequences») (sequenceEntry d n) few (place-is (sequenceEntry d n) (r .«device_sequences») ∙ t))
     (maps.claims sequenceKey .insert-rises (sequenceEntry d n) (entriesOf sequences (r .«device_sequences»)) (s .devices-rise))))))
     (λ t. rw t h)
 
@@ -94,7 +95,7 @@ never false false q = cc
 
 in-order : (r : PlatformInputRouter) (d : InputDeviceId) (n time : ℕ) → orderOf r d n time ≡ order.InOrder
     → recorded r d n time ≡ withTimestamp time (withSequences (inserted sequences sequenceKey (sequenceEntry d n) (r .«device_sequences»)) r)
-in-order r d n time q = by-test (hasPlace r d n)
+in-order r d n time q = by-test (hasPlace r d)
     (λ t. rw t)
     (λ t. clash refl (never (eqb n 0 || isOld (lastOf r d) n) (ltb time (r .«last_timestamp_micros»)) (rw t at q)))
 

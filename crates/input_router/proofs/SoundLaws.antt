@@ -16,7 +16,7 @@ use Rattle.lists.proofs.TableLaws.{len-packed, entries-packed}
 use Rattle.lists.proofs.MapLaws as map
 use Rattle.maps.specs.Keys.{bindingKey, keyLt}
 use Rattle.maps.specs.MapTables.{isSome, found, accepts, keysRise}
-use Rattle.maps.specs.Bindings.{bindings, keyOfBinding}
+use Rattle.maps.specs.Bindings.{bindings, keyOfBinding, surfaceOf}
 use Rattle.maps.specs.Sequences.{sequences, sequenceKey}
 use Rattle.maps.specs.declared.bindings.Binding.{Binding}
 use Rattle.maps.specs.declared.keys.BindingKey.{BindingKey}
@@ -26,7 +26,7 @@ use Rattle.handles.specs.declared.GenerationalHandle.{GenerationalHandle}
 use Rattle.input_router.specs.declared.router.PlatformInputRouter.{PlatformInputRouter}
 use Rattle.input_router.specs.Router.{isStarted, startOutcome, emptyRouter, withBindings, withSequences, withTimestamp, pressesOf}
 use Rattle.input_router.specs.Damage.{limitSound, countsSound, keysSound, isRouterSound}
-use Rattle.input_router.specs.Presses.{press, hasRoom, opened}
+use Rattle.input_router.specs.Presses.{press, hasRoomWith, hasRoom, opened}
 
 pub record Sound (r : PlatformInputRouter) : Type 0 where
   pub limit : limitSound r ≡ true
@@ -113,17 +113,17 @@ module _ (r : PlatformInputRouter) (k : BindingKey) (h : GenerationalHandle) (s 
   pub opened-fits : length (insert keyOfBinding keyLt (press k h) (pressesOf r)) ≤ r .«max_active_bindings»
   opened-fits = go (found bindings keyOfBinding (bindingKey k) (r .bindings)) refl room
     where
-      go : (f : Option Binding) → found bindings keyOfBinding (bindingKey k) (r .bindings) ≡ f → (isSome f || ltb (length (pressesOf r)) (r .«max_active_bindings»)) ≡ true
+      go : (f : Option Binding) → found bindings keyOfBinding (bindingKey k) (r .bindings) ≡ f → hasRoomWith (surfaceOf f) (length (pressesOf r)) (r .«max_active_bindings») ≡ true
           → length (insert keyOfBinding keyLt (press k h) (pressesOf r)) ≤ r .«max_active_bindings»
       go (some f) q t = omega (arith, map.insert-fits-found keyOfBinding maps.keys (press k h) f (pressesOf r) q, short bindings (r .bindings), s .within)
       go none q t = omega (arith, map.insert-fits keyOfBinding maps.keys (press k h) (pressesOf r), ltb-true (length (pressesOf r)) (r .«max_active_bindings») t)
 
   pub opened-accepted : accepts bindings keyOfBinding (press k h) (r .bindings) ≡ true
-  opened-accepted = go (isSome (found bindings keyOfBinding (bindingKey k) (r .bindings))) room
+  opened-accepted = go (found bindings keyOfBinding (bindingKey k) (r .bindings)) room
     where
-      go : (b : Bool) → (b || ltb (length (pressesOf r)) (r .«max_active_bindings»)) ≡ true → (b || ltb (length (pressesOf r)) 128) ≡ true
-      go true t = refl
-      go false t = lt-ltb (length (pressesOf r)) 128 (omega (arith, ltb-true (length (pressesOf r)) (r .«max_active_bindings») t, limit-within (r .«max_active_bindings») (s .limit)))
+      go : (f : Option Binding) → hasRoomWith (surfaceOf f) (length (pressesOf r)) (r .«max_active_bindings») ≡ true → (isSome f || ltb (length (pressesOf r)) 128) ≡ true
+      go (some f) t = refl
+      go none t = lt-ltb (length (pressesOf r)) 128 (omega (arith, ltb-true (length (pressesOf r)) (r .«max_active_bindings») t, limit-within (r .«max_active_bindings») (s .limit)))
 
   pub opened-sound : Sound (opened r k h)
   opened-sound =

@@ -1,11 +1,13 @@
 -- RULES.md, Presses, and 40: a router full of presses opens no other.
-use mathlib.Core.Bool.{Bool, _||_}
+use Prim.Native.Nat.{ℕ}
+use mathlib.Core.Bool.{Bool, true}
 use lib.Dec.{ltb}
 use lib.ListN.{length}
 use Rattle.handles.specs.declared.GenerationalHandle.{GenerationalHandle}
 use Rattle.handles.specs.declared.OptionalHandle.{OptionalHandle}
+use Rattle.handles.specs.declared.OptionalHandle.the-variants.{None, Some}
 use Rattle.maps.specs.Keys.{bindingKey}
-use Rattle.maps.specs.MapTables.{isSome, found, removed}
+use Rattle.maps.specs.MapTables.{found, removed}
 use Rattle.maps.specs.Bindings.{bindings, keyOfBinding, surfaceOf, insertionOf}
 use Rattle.maps.specs.declared.keys.BindingKey.{BindingKey}
 use Rattle.maps.specs.declared.bindings.Binding.{Binding}
@@ -20,10 +22,12 @@ abbrev pub heldBy : PlatformInputRouter → BindingKey → OptionalHandle
 heldBy r key = surfaceOf (found bindings keyOfBinding (bindingKey key) (r .bindings))
 
 -- the press is open already, or the open presses are below the limit
+abbrev pub hasRoomWith : OptionalHandle → ℕ → ℕ → Bool
+hasRoomWith None count limit = ltb count limit
+hasRoomWith (Some surface) count limit = true
+
 abbrev pub hasRoom : PlatformInputRouter → BindingKey → Bool
-hasRoom r key =
-    isSome (found bindings keyOfBinding (bindingKey key) (r .bindings))
-    || ltb (length (pressesOf r)) (r .«max_active_bindings»)
+hasRoom r key = hasRoomWith (heldBy r key) (length (pressesOf r)) (r .«max_active_bindings»)
 
 -- a Down opens the press or moves it to the new receiver
 abbrev pub opened : PlatformInputRouter → BindingKey → GenerationalHandle → PlatformInputRouter

@@ -1,11 +1,21 @@
 // The open presses: which panel holds one, whether one more may be opened, and how they are opened, moved and ended.
 ghost use mathlib.Core.Path.{_≡_};
-ghost use Rattle.input_router.specs.Presses.{heldBy, hasRoom, opened, ended};
+ghost use Rattle.input_router.specs.Presses.{heldBy, hasRoomWith, hasRoom, opened, ended};
 use crate::router::PlatformInputRouter;
 use handles::GenerationalHandle;
 use handles::OptionalHandle;
 use maps::bindings::Binding;
 use maps::keys::BindingKey;
+
+// Whether a press that this panel holds is open already, or one more may be opened.
+pub fn has_room_with(holder: OptionalHandle, count: usize, limit: u64) -> bool
+    ensures { λ r. ⌜ r ≡ hasRoomWith holder count limit ⌝ }
+{
+    match holder {
+        OptionalHandle::None => (count as u64) < limit,
+        OptionalHandle::Some(_) => true,
+    }
+}
 
 impl PlatformInputRouter {
     // The panel that holds the press.
@@ -19,11 +29,11 @@ impl PlatformInputRouter {
     pub fn has_room(self, key: BindingKey) -> bool
         ensures { λ r. ⌜ r ≡ hasRoom self key ⌝ }
     {
-        let holder = self.bindings.get(key);
-        match holder {
-            OptionalHandle::Some(_) => true,
-            OptionalHandle::None => (self.bindings.count() as u64) < self.max_active_bindings,
-        }
+        has_room_with(
+            self.bindings.get(key),
+            self.bindings.count(),
+            self.max_active_bindings,
+        )
     }
 
     // The router with the press opened at a panel, or moved to it.

@@ -1,42 +1,18 @@
--- `event_refusal` meets its contract: the checks are joined in their order.
+-- `event_refusal` meets its contract: the checks, by what is found of the view.
 use borrow.Author.Needs.{needs}
 use Rattle.input_events.specs.Checks.{eventRefusal}
 use Rattle.input_events.proofs.checks.event_refusal.Statement.{statement}
 use Rattle.input_events.proofs.checks.event_refusal.Tie as tie
 
-device-refusal-requires : tie.Need-device-refusal-requires
-device-refusal-requires c κs = search needs
+find-view-requires : tie.Need-find-view-requires
+find-view-requires c κs = search needs
 
-header-refusal-requires : tie.Need-header-refusal-requires
-header-refusal-requires c κs = search needs
-
-payload-refusal-requires : tie.Need-payload-refusal-requires
-payload-refusal-requires c κs = search needs
-
-then-requires : tie.Need-then-requires
-then-requires c κs = search needs
-
-then-requires-2 : tie.Need-then-requires-2
-then-requires-2 c κs = search needs
+event-refusal-in-requires : tie.Need-event-refusal-in-requires
+event-refusal-in-requires c κs = search needs
 
 returns : tie.Need-returns
 unfolding eventRefusal
-returns c =
-    rw (
-      c .then2 .ensures,
-      c .before .then .ensures,
-      c .before .before .payload-refusal .ensures,
-      c .before .before .before .header-refusal .ensures,
-      c .before .before .before .before .device-refusal .ensures,
-    )
+returns c = rw (c .event-refusal-in .ensures, c .before .find-view .ensures)
 
 pub event-refusal-spec : {M : Type 1} → statement M
-event-refusal-spec =
-    tie.close
-    (tie.spec
-    device-refusal-requires
-    header-refusal-requires
-    payload-refusal-requires
-    then-requires
-    then-requires-2
-    returns)
+event-refusal-spec = tie.close (tie.spec find-view-requires event-refusal-in-requires returns)

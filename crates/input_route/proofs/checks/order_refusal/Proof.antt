@@ -1,5 +1,4 @@
--- `order_refusal` meets its contract, by the order of the event.
-use mathlib.Core.Path.{sym, _∙_}
+-- `order_refusal` meets its contract: what the order of the event is refused for.
 use borrow.Author.Needs.{needs}
 use Rattle.input_route.proofs.checks.order_refusal.Statement.{statement}
 use Rattle.input_route.proofs.checks.order_refusal.Tie as tie
@@ -7,40 +6,11 @@ use Rattle.input_route.proofs.checks.order_refusal.Tie as tie
 order-of-requires : tie.Need-order-of-requires
 order-of-requires c κs = search needs
 
-enum-told : tie.Need-enum-told
-enum-told c = search needs
-
-enum-told-2 : tie.Need-enum-told-2
-enum-told-2 c = search needs
-
-enum-told-3 : tie.Need-enum-told-3
-enum-told-3 c = search needs
-
-enum-told-4 : tie.Need-enum-told-4
-enum-told-4 c = search needs
+refusal-of-order-requires : tie.Need-refusal-of-order-requires
+refusal-of-order-requires c κs = search needs
 
 returns : tie.Need-returns
-returns c = rw (sym (c .before .before .order-of .ensures) ∙ c .enum-told .given .1)
-
-returns-2 : tie.Need-returns-2
-returns-2 c = rw (sym (c .before .before .order-of .ensures) ∙ c .enum-told2 .given .1)
-
-returns-3 : tie.Need-returns-3
-returns-3 c = rw (sym (c .before .before .order-of .ensures) ∙ c .enum-told3 .given .1)
-
-returns-4 : tie.Need-returns-4
-returns-4 c = rw (sym (c .before .before .order-of .ensures) ∙ c .enum-told4 .given .1)
+returns c = rw (c .refusal-of-order .ensures, c .before .order-of .ensures)
 
 pub order-refusal-spec : {M : Type 1} → statement M
-order-refusal-spec =
-    tie.close
-    (tie.spec
-    order-of-requires
-    enum-told
-    enum-told-2
-    enum-told-3
-    enum-told-4
-    returns
-    returns-2
-    returns-3
-    returns-4)
+order-refusal-spec = tie.close (tie.spec order-of-requires refusal-of-order-requires returns)

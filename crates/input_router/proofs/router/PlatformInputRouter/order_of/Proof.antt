@@ -1,42 +1,19 @@
--- `PlatformInputRouter::order_of` meets its contract: the tests, in their order.
-use borrow.Author.Tests.{eq-eqb, ne-eqb, lt-ltb, le-ltb}
+-- `PlatformInputRouter::order_of` meets its contract: the order by what is found of the device.
 use borrow.Author.Needs.{needs}
 use Rattle.input_router.proofs.router.PlatformInputRouter.order_of.Statement.{statement}
 use Rattle.input_router.proofs.router.PlatformInputRouter.order_of.Tie as tie
 
-returns : tie.Need-returns
-returns c = rw (eq-eqb _ _ (c .if1 .taken))
-
 get-requires : tie.Need-get-requires
 get-requires c κs = search needs
 
-is-old-requires : tie.Need-is-old-requires
-is-old-requires c κs = search needs
+count-requires : tie.Need-count-requires
+count-requires c κs = search needs
 
-returns-2 : tie.Need-returns-2
-returns-2 c = simp (ne-eqb _ _ (c .before .before .before .if1 .left), c .if2 .taken, ← c .before .is-old .ensures, ← c .before .before .get .ensures)
+order-with-requires : tie.Need-order-with-requires
+order-with-requires c κs = search needs
 
-returns-3 : tie.Need-returns-3
-returns-3 c = simp (ne-eqb _ _ (c .before .before .before .before .before .if1 .left), c .before .before .if2 .left, ← c .before .before .before .is-old .ensures, ← c .before .before .before .before .get .ensures, lt-ltb _ _ (c .if3 .taken))
-
-has-place-requires : tie.Need-has-place-requires
-has-place-requires c κs = search needs
-
-returns-4 : tie.Need-returns-4
-returns-4 c = simp (ne-eqb _ _ (c .before .before .before .before .before .before .before .if1 .left), c .before .before .before .before .if2 .left, ← c .before .before .before .before .before .is-old .ensures, ← c .before .before .before .before .before .before .get .ensures, le-ltb _ _ (c .before .before .if3 .left), c .if4 .taken, ← c .before .has-place .ensures)
-
-returns-5 : tie.Need-returns-5
-returns-5 c = simp (ne-eqb _ _ (c .before .before .before .before .before .before .before .if1 .left), c .before .before .before .before .if2 .left, ← c .before .before .before .before .before .is-old .ensures, ← c .before .before .before .before .before .before .get .ensures, le-ltb _ _ (c .before .before .if3 .left), c .if4 .left, ← c .before .has-place .ensures)
+returns : tie.Need-returns
+returns c = rw (c .order-with .ensures, c .before .count .ensures, c .before .before .get .ensures)
 
 pub order-of-spec : {M : Type 1} → statement M
-order-of-spec =
-    tie.close
-    (tie.spec
-    returns
-    get-requires
-    is-old-requires
-    returns-2
-    returns-3
-    has-place-requires
-    returns-4
-    returns-5)
+order-of-spec = tie.close (tie.spec get-requires count-requires order-with-requires returns)

@@ -1,14 +1,8 @@
--- `header_refusal` meets its contract: the checks are joined in their order.
+-- `header_refusal_in` meets its contract: the checks are joined in their order.
 use borrow.Author.Needs.{needs}
-use Rattle.input_events.specs.Checks.{headerRefusal}
-use Rattle.input_events.proofs.checks.header_refusal.Statement.{statement}
-use Rattle.input_events.proofs.checks.header_refusal.Tie as tie
-
-record-requires : tie.Need-record-requires
-record-requires c κs = search needs
-
-refusal-requires : tie.Need-refusal-requires
-refusal-requires c κs = search needs
+use Rattle.input_events.specs.Checks.{headerRefusalIn}
+use Rattle.input_events.proofs.checks.header_refusal_in.Statement.{statement}
+use Rattle.input_events.proofs.checks.header_refusal_in.Tie as tie
 
 from-composition-requires : tie.Need-from-composition-requires
 from-composition-requires c κs = search needs
@@ -26,7 +20,7 @@ then-requires-2 : tie.Need-then-requires-2
 then-requires-2 c κs = search needs
 
 returns : tie.Need-returns
-unfolding headerRefusal
+unfolding headerRefusalIn
 returns c =
     rw (
       c .then2 .ensures,
@@ -34,16 +28,12 @@ returns c =
       c .before .before .metrics-refusal .ensures,
       c .before .before .before .window-refusal .ensures,
       c .before .before .before .before .from-composition .ensures,
-      c .before .before .before .before .before .refusal .ensures,
-      c .before .before .before .before .before .before .«record» .ensures,
     )
 
-pub header-refusal-spec : {M : Type 1} → statement M
-header-refusal-spec =
+pub header-refusal-in-spec : {M : Type 1} → statement M
+header-refusal-in-spec =
     tie.close
     (tie.spec
-    record-requires
-    refusal-requires
     from-composition-requires
     window-refusal-requires
     metrics-refusal-requires
