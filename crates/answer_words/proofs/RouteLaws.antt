@@ -161,7 +161,7 @@ module _ (t : PlatformInputRouter) (h : length (t .bindings .entries) ≡ 128) w
 -- ---- a routed event
 recorded-long : (t : PlatformInputRouter) (e : PlatformInputEvent)
     → length (t .bindings .entries) ≡ 128 → length (recordedEvent t e .bindings .entries) ≡ 128
-recorded-long t e h = by-test (hasPlace t (e .header .device) (e .header .sequence)) (λ q. rw q h) (λ q. rw q h)
+recorded-long t e h = by-test (hasPlace t (e .header .device)) (λ q. rw q h) (λ q. rw q h)
 
 module _ (r : CompositionRegistry) (x : All ViewLengths (r .views .records))
     (t : PlatformInputRouter) (h : length (t .bindings .entries) ≡ 128) (e : PlatformInputEvent) where

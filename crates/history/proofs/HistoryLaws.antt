@@ -168,19 +168,19 @@ traced (x ∷ l) c b none v j must k =
     let f = k .0 in
     let own = call-goes c b v j (x .call) (x .lists) (f .no-shutdown) (record { not-21 = f .not-21; not-22 = f .not-22 }) in
     more x l c b (j .own .presses) (record { listed = own .listed; once = own .once; one-panel = own .one-panel })
-    (traced l (call c x .counter) _ (closedIn (entryOf x (call c x .answer))) (step-safe c v (x .call) (x .lists)) (own .next) (f .released-next) (k .1))
+    (traced l (call c x .counter) _ (closedIn (entryOf x (call c x .answer))) (step-safe c v (x .call) (x .lists) .safe) (own .next) (f .released-next) (k .1))
 traced (x ∷ l) c b (some h) v j must k = ⊎-elim
     (λ r.
     let idle = read-idle c (x .call) (x .lists) (r .0) in
     more x l c b (j .own .presses)
     (record { listed = idle .unlisted ∙ sym (idle .unowed b); once = none-twice isSameRelease (idle .unlisted); one-panel = none-twice isSamePressOf (idle .unowed-presses b) })
-    (traced l (call c x .counter) _ (some h) (step-safe c v (x .call) (x .lists))
+    (traced l (call c x .counter) _ (some h) (step-safe c v (x .call) (x .lists) .safe)
     (subst (λ (d : Book). Joined (some h) (call c x .counter) d) (sym (idle .unnoted b)) (subst (λ (d : Counter). Joined (some h) d b) (sym (idle .counter)) j))
     (r .1) (k .1)))
     (λ q.
     let own = released-goes h c b v j (x .call) (x .lists) q in
     more x l c b (j .own .presses) (record { listed = own .listed; once = own .once; one-panel = own .one-panel })
-    (traced l (call c x .counter) _ (closedIn (entryOf x (call c x .answer))) (step-safe c v (x .call) (x .lists)) (own .next) (k .0 .released-next) (k .1)))
+    (traced l (call c x .counter) _ (closedIn (entryOf x (call c x .answer))) (step-safe c v (x .call) (x .lists) .safe) (own .next) (k .0 .released-next) (k .1)))
     must
 
 -- ---- no other press changes
@@ -239,7 +239,10 @@ demand-3 = record {
 safe-after : (l : List Asked) (c : Counter) → Safe c → Safe (after l c)
 unfolding after
 safe-after [] c v = v
-safe-after (x ∷ l) c v = safe-after l (call c x .counter) (step-safe c v (x .call) (x .lists))
+safe-after (x ∷ l) c v = safe-after l (call c x .counter) (step-safe c v (x .call) (x .lists) .safe)
 
 pub never-damaged : NeverDamaged
-never-damaged = record { sound = λ s a l. let v = safe-after l (fresh s) (safe-start s a) in (v .registry .sound, v .router) }
+never-damaged = record {
+  sound = λ s a l. let v = safe-after l (fresh s) (safe-start s a) in (v .registry .sound, v .router);
+  never-42 = λ s a l x. step-safe _ (safe-after l (fresh s) (safe-start s a)) (x .call) (x .lists) .clear .not-42;
+}

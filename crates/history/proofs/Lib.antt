@@ -1,4 +1,5 @@
 pub mod NumberLaws
+pub mod ClearLaws
 pub mod SafeLaws
 pub mod TestLaws
 pub mod OnceLaws

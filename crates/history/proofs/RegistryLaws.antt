@@ -14,8 +14,6 @@ use Rattle.records.specs.declared.error.Outcome.the-variants.{Accepted}
 use Rattle.composition_state.specs.declared.registry.CompositionRegistry.{CompositionRegistry}
 use Rattle.composition_input.specs.Captures.{primary, releaseDevicePointerCaptures}
 use Rattle.composition_input.proofs.ClaimLaws as inputs
-use Rattle.composition_shortcuts.specs.declared.register.Registrations.{Registrations}
-use Rattle.composition_shortcuts.specs.Register.{registrationList, ofMask}
 use Rattle.composition_arbitration.specs.Arbitration.{arbitrated}
 use Rattle.composition_arbitration.proofs.CallClaimLaws as arbitration
 use Rattle.composition_close.specs.Close.{closeSurface}
@@ -34,7 +32,6 @@ use Rattle.calls.specs.declared.call.PanelCall.{PanelCall}
 use Rattle.calls.specs.declared.call.PanelCall.the-variants as panel
 use Rattle.calls.specs.declared.call.ReadCall.{ReadCall}
 use Rattle.calls.specs.declared.call.ShortcutCall.{ShortcutCall}
-use Rattle.calls.specs.declared.call.ShortcutCall.the-variants as shortcut
 use Rattle.book.specs.Book.{Asked, Held, Book, heldPlace, placeBefore, homeOf, isHeldByDevice, isHeldOnPanel, withCaptureIn, withCapture, withoutCaptures}
 use Rattle.book.specs.Notes.{change, changed, notedAttach, notedPanel, notedInput, notedClose, registered, noted}
 use Rattle.book.specs.Owed.{concern, withoutConcerned}
@@ -54,17 +51,6 @@ use Rattle.history.proofs.JoinLaws.{Shared, Joined, Right, Allowed, sti
 
 -- ---- the book follows an accepted call
 module _ (r : CompositionRegistry) (u : Undamaged r) (b : Book) (a : Agrees r b) where
-  panel-follows : (call : PanelCall) → panelStep r call .outcome ≡ Accepted → Follows r (panelStep r call .registry) (notedPanel call (panelStep r call .handle) b)
-  unfolding panelStep notedPanel
-  panel-follows panel.CreateWindow q = registry.claims .create-window r b u a q
-  panel-follows (panel.CloseWindow w) q = registry.claims .close-window r b w u a q
-  panel-follows (panel.CreateView w) q = registry.claims .create-view r b w u a q
-  panel-follows (panel.UpdateViewMetrics x) q = registry.claims .metrics r b (x .view) (x .update) (x .revision) u a q
-  panel-follows (panel.CloseView v) q = registry.claims .close-view r b v u a q
-  panel-follows (panel.AttachSurface d) q = registry.claims .attach r b d u a q
-  panel-follows (panel.UpdateSurfaceGeometry x) q = registry.claims .geometry r b (x .surface) (x .geometry) (x .revision) u a q
-  panel-follows (panel.UpdateSurfaceInputPolicy x) q = registry.claims .policy r b (x .surface) (x .input) (x .revision) u a q
-
   input-follows : (call : InputCall) → inputStep r call .outcome ≡ Accepted → Follows r (inputStep r call .registry) (notedInput call b)
   unfolding inputStep notedInput
   input-follows (input.SetFocus x) q = registry.claims .focus r b (x .view) (x .surface) (x .revision) u a q
@@ -75,12 +61,6 @@ module _ (r : CompositionRegistry) (u : Undamaged r) (b : Book) (a : Agrees r b)
   input-follows (input.BeginIme x) q = registry.claims .begin-ime r b (x .handle) (x .revision) u a q
   input-follows (input.EndIme x) q = registry.claims .end-ime r b (x .handle) (x .revision) u a q
   input-follows (input.SuspendViewInput x) q = registry.claims .suspend r b (x .handle) (x .revision) u a q
-
-  shortcut-follows : (call : ShortcutCall) (l : Registrations) → shortcutStep r call l .outcome ≡ Accepted → Follows r (shortcutStep r call l .registry) b
-  unfolding shortcutStep
-  shortcut-follows (shortcut.RegisterSet x) l q = registry.claims .register r b (x .handle) l (x .revision) u a q
-  shortcut-follows (shortcut.RegisterOne x) l q = registry.claims .register r b (x .surface) (registrationList (x .registration)) (x .revision) u a q
-  shortcut-follows (shortcut.SetMask x) l q = registry.claims .register r b (x .surface) (registrationList (ofMask (x .«class_mask»))) (x .revision) u a q
 
 -- ---- these calls leave the presses, and the captures in order
 pub record Quiet (b after : Book) : Type 0 where
@@ -156,7 +136,7 @@ module _ (c : Counter) (b : Book) (u : Undamaged (c .registry)) (j : Joined none
       let x = panelStep (c .registry) call in
       registry-right c b j (entry c (Panel call) l) a (x .registry) (entries-packed releases []) (x .outcome) refl refl
       (λ e q n m. panel-settles (c .registry) call .refused e q n)
-      (λ q. follow c b (notedPanel call (x .handle) b) (x .registry) j (panel-follows (c .registry) u b (j .shared .agrees) call q) (panel-quiet b (j .shared .captures-rise) call (x .handle)))
+      (λ q. follow c b (notedPanel call (x .handle) b) (x .registry) j (registry.claims .panel (c .registry) b call u (j .shared .agrees) q) (panel-quiet b (j .shared .captures-rise) call (x .handle)))
 
   pub input-goes : (call : InputCall) → Goes c b (Input call) l
   unfolding stepped concern change changed registered withoutConcerned noted
@@ -181,7 +161,7 @@ module _ (c : Counter) (b : Book) (u : Undamaged (c .registry)) (j : Joined none
       let x = shortcutStep (c .registry) call (l .registrations) in
       registry-right c b j (entry c (Shortcut call) l) a (x .registry) (entries-packed releases []) (x .outcome) refl refl
       (λ e q n m. shortcut-settles (c .registry) call (l .registrations) .refused e q n)
-      (λ q. follow c b b (x .registry) j (shortcut-follows (c .registry) u b (j .shared .agrees) call (l .registrations) q) (same-quiet b (j .shared .captures-rise)))
+      (λ q. follow c b b (x .registry) j (registry.claims .shortcut (c .registry) b call (l .registrations) u (j .shared .agrees) q) (same-quiet b (j .shared .captures-rise)))
 
   pub arbitrate-goes : (d : ArbitrateArguments) → Goes c b (Arbitrate d) l
   unfolding stepped concern change changed registered withoutConcerned noted arbitrationAlone

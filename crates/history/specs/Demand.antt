@@ -101,7 +101,10 @@ pub record NothingLost (s : Start) (l : List Asked) : Type 0 where
 pub record Demand3 : Type 0 where
   pub nothing-lost : (s : Start) → Accepts s → (l : List Asked) → Premises (history l (fresh s)) → NothingLost s l
 
--- ---- beside it, without any premise: no list of calls leads to a counter that the damage test rejects
+-- ---- beside it, without any premise: no list of calls leads to a counter that the damage test rejects, and so no call
+-- after any list answers 42
 pub record NeverDamaged : Type 0 where
   pub sound : (s : Start) → Accepts s → (l : List Asked) → (isSound (after l (fresh s) .registry) ≡ true)
       × (isRouterSound (after l (fresh s) .router) ≡ true)
+  pub never-42 : (s : Start) → Accepts s → (l : List Asked) (x : Asked)
+      → toldOf (call (after l (fresh s)) x .answer) .number ≡ 42 → ⊥

@@ -13,7 +13,7 @@ pub fn release_order()
     ensures { λ r. ⌜ ReleaseOrder ⌝ }
 {}
 
-// No list of calls, of whatever kind, leads to a counter that the damage test rejects.
+// No list of calls, of whatever kind, leads to a counter that the damage test rejects, and no call after it answers 42.
 pub fn never_damaged()
     ensures { λ r. ⌜ NeverDamaged ⌝ }
 {}

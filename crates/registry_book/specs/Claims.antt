@@ -7,8 +7,6 @@ use mathlib.Core.Bool.{true}
 use mathlib.Core.List.{map}
 use Rattle.lists.specs.Lists.{keep, all}
 use Rattle.lists.specs.Tables.{entriesOf}
-use Rattle.geometry.specs.declared.metrics.ViewMetricsUpdate.{ViewMetricsUpdate}
-use Rattle.geometry.specs.declared.surface.SurfaceGeometry.{SurfaceGeometry}
 use Rattle.handles.specs.declared.GenerationalHandle.{GenerationalHandle}
 use Rattle.handles.specs.declared.OptionalHandle.{OptionalHandle}
 use Rattle.handles.specs.declared.OptionalHandle.the-variants.{Some}
@@ -18,27 +16,24 @@ use Rattle.maps.specs.Captures.{captures}
 use Rattle.records.specs.declared.error.Outcome.the-variants.{Accepted}
 use Rattle.composition_state.specs.declared.registry.CompositionLimits.{CompositionLimits}
 use Rattle.composition_state.specs.declared.registry.CompositionRegistry.{CompositionRegistry}
-use Rattle.records.specs.declared.surface.SurfaceDescriptor.{SurfaceDescriptor}
-use Rattle.records.specs.declared.surface.SurfaceInputPolicy.{SurfaceInputPolicy}
 use Rattle.records.specs.declared.trace.ArbitrationEvent.{ArbitrationEvent}
 use Rattle.records.specs.declared.trace.Hits.{Hits}
 use Rattle.records.specs.Layers.{isLive}
 use Rattle.composition_state.specs.Start.{started}
 use Rattle.records.specs.Traces.{deliveries}
 use Rattle.records.specs.Views.{viewAt, viewStatus}
-use Rattle.composition_panels.specs.Windows.{createWindow, closeWindow, createView, closeView}
-use Rattle.composition_panels.specs.Metrics.{updateViewMetrics}
-use Rattle.composition_panels.specs.Panels.{attachSurface, updateSurfaceGeometry, updateSurfaceInputPolicy}
 use Rattle.composition_input.specs.Focus.{setFocus, beginIme, endIme, suspendViewInput}
 use Rattle.composition_input.specs.Captures.{primary, capturePointerFor, releasePointerFor, releasePointer, deviceCaptures, releaseDevicePointerCaptures}
 use Rattle.composition_shortcuts.specs.declared.register.Registrations.{Registrations}
-use Rattle.composition_shortcuts.specs.Register.{registerSurfaceSystemShortcutSet}
 use Rattle.composition_arbitration.specs.Arbitration.{arbitrated}
 use Rattle.composition_close.specs.Close.{closeSurface}
 use Rattle.composition_soundness.specs.Claims.{Undamaged}
+use Rattle.calls.specs.declared.call.PanelCall.{PanelCall}
+use Rattle.calls.specs.declared.call.ShortcutCall.{ShortcutCall}
+use Rattle.registry_step.specs.Steps.{panelStep, shortcutStep}
 use Rattle.book.specs.Book.{Held, Book, emptyBook, withoutCaptures, isHeldInView, isHeldOnPanel}
 use Rattle.registry_book.specs.MapTests.{captured, isOfMapDevice, isMapEntry}
-use Rattle.book.specs.Notes.{notedAttach}
+use Rattle.book.specs.Notes.{notedPanel}
 use Rattle.registry_book.specs.Agreement.{isOpen, Agrees, KeepsBut, Follows}
 
 abbrev pub captureOf : Held → Capture
@@ -49,40 +44,23 @@ pub record RegistryBookClaims : Type 0 where
   pub start : (session : GenerationalHandle) (epoch : ℕ) (limits : CompositionLimits) (revision generation : ℕ)
       → started session epoch limits revision generation .outcome ≡ Accepted
       → Agrees (started session epoch limits revision generation .registry) emptyBook
+  -- calls on windows, views and panels: "Attach notes the view.", and the book does not name the others
+  pub panel : (r : CompositionRegistry) (b : Book) (call : PanelCall) → Undamaged r → Agrees r b
+      → panelStep r call .outcome ≡ Accepted
+      → Follows r (panelStep r call .registry) (notedPanel call (panelStep r call .handle) b)
   -- calls that the book does not name
-  pub create-window : (r : CompositionRegistry) (b : Book) → Undamaged r → Agrees r b → createWindow r .outcome
-      ≡ Accepted → Follows r (createWindow r .registry) b
-  pub close-window : (r : CompositionRegistry) (b : Book) (w : GenerationalHandle) → Undamaged r → Agrees r b
-      → closeWindow r w .outcome ≡ Accepted → Follows r (closeWindow r w .registry) b
-  pub create-view : (r : CompositionRegistry) (b : Book) (w : GenerationalHandle) → Undamaged r → Agrees r b
-      → createView r w .outcome ≡ Accepted → Follows r (createView r w .registry) b
-  pub close-view : (r : CompositionRegistry) (b : Book) (v : GenerationalHandle) → Undamaged r → Agrees r b
-      → closeView r v .outcome ≡ Accepted → Follows r (closeView r v .registry) b
-  pub metrics : (r : CompositionRegistry) (b : Book) (v : GenerationalHandle) (u : ViewMetricsUpdate) (n : ℕ)
-      → Undamaged r → Agrees r b → updateViewMetrics r v u n .outcome ≡ Accepted
-      → Follows r (updateViewMetrics r v u n .registry) b
-  pub geometry : (r : CompositionRegistry) (b : Book) (h : GenerationalHandle) (g : SurfaceGeometry) (n : ℕ)
-      → Undamaged r → Agrees r b → updateSurfaceGeometry r h g n .outcome ≡ Accepted
-      → Follows r (updateSurfaceGeometry r h g n .registry) b
-  pub policy : (r : CompositionRegistry) (b : Book) (h : GenerationalHandle) (p : SurfaceInputPolicy) (n : ℕ)
-      → Undamaged r → Agrees r b → updateSurfaceInputPolicy r h p n .outcome ≡ Accepted
-      → Follows r (updateSurfaceInputPolicy r h p n .registry) b
   pub focus : (r : CompositionRegistry) (b : Book) (v : GenerationalHandle) (h : OptionalHandle) (n : ℕ) → Undamaged r
       → Agrees r b → setFocus r v h n .outcome ≡ Accepted → Follows r (setFocus r v h n .registry) b
   pub begin-ime : (r : CompositionRegistry) (b : Book) (h : GenerationalHandle) (n : ℕ) → Undamaged r → Agrees r b
       → beginIme r h n .outcome ≡ Accepted → Follows r (beginIme r h n .registry) b
   pub end-ime : (r : CompositionRegistry) (b : Book) (h : GenerationalHandle) (n : ℕ) → Undamaged r → Agrees r b
       → endIme r h n .outcome ≡ Accepted → Follows r (endIme r h n .registry) b
-  pub register : (r : CompositionRegistry) (b : Book) (h : GenerationalHandle) (t : Registrations) (n : ℕ)
-      → Undamaged r → Agrees r b → registerSurfaceSystemShortcutSet r h t n .outcome ≡ Accepted
-      → Follows r (registerSurfaceSystemShortcutSet r h t n .registry) b
+  pub shortcut : (r : CompositionRegistry) (b : Book) (call : ShortcutCall) (l : Registrations)
+      → Undamaged r → Agrees r b → shortcutStep r call l .outcome ≡ Accepted
+      → Follows r (shortcutStep r call l .registry) b
   pub arbitrate : (r : CompositionRegistry) (b : Book) (v : GenerationalHandle) (e : ArbitrationEvent) (hits : Hits)
       → Undamaged r → Agrees r b → arbitrated r v e hits .outcome ≡ Accepted
       → Follows r (arbitrated r v e hits .registry) b
-  -- "Attach notes the view."
-  pub attach : (r : CompositionRegistry) (b : Book) (d : SurfaceDescriptor) → Undamaged r → Agrees r b
-      → attachSurface r d .outcome ≡ Accepted
-      → Follows r (attachSurface r d .registry) (notedAttach (attachSurface r d .handle) (d .view) b)
   -- "Capture gives the panel the pointer in the panel's view"
   pub capture : (r : CompositionRegistry) (b : Book) (p : CompositionPointerId) (h : GenerationalHandle) (n : ℕ)
       → Undamaged r → Agrees r b → capturePointerFor r p h n .outcome ≡ Accepted
