@@ -27,7 +27,7 @@ use Rattle.composition_close.specs.Detach.{hadCapture, topmost, detachedView}
 use Rattle.composition_hits.specs.HitTest.{isLayerHit, hitsAmong, viewHits}
 use Rattle.composition_soundness.specs.Claims.{Undamaged}
 use Rattle.input_events.specs.ArbitrationEvents.{arbitrationEventIn, needsHits, pointOf, isLoss, isDisconnect}
-use Rattle.input_events.specs.Checks.{payloadRefusal, headerRefusal, eventRefusal}
+use Rattle.input_events.specs.Checks.{payloadRefusal, headerRefusalIn, eventRefusal}
 use Rattle.input_events.specs.Presses.{pressIn, effectIn, receiverOf}
 use Rattle.input_router.specs.Damage.{isRouterSound}
 use Rattle.input_route.specs.Checks.{routeRefusal}
@@ -54,7 +54,7 @@ holding = record {
 }
 
 pub examples : CounterExamples
-unfolding allBelow countBelow iterBelow entriesOf packed pushed emptyArena lookupOf hasRoom allocated released countsWithin occurrencesOf wellFormed isHit isValidGeometry solved layerLt recordsOf arenasSound tracesSound layersSound viewSound viewsSound isSound advanced freshRegistry attached attachSurface createWindow createView capturePointerFor setFocus ownViewRefusal ownHits resolution alone walkIn concluded arbitrated decided verdictAt untilConsumed consumerOf walkOf chosen isTargeted traced detached freed closeSettled closeSurface hadCapture topmost detachedView isLayerHit hitsAmong viewHits arbitrationEventIn needsHits pointOf isLoss isDisconnect payloadRefusal headerRefusal eventRefusal pressIn effectIn receiverOf isRouterSound routeRefusal hitsFor routedArbitration routedPayload routed lib.Ieee.lt lib.Ieee.sub lib.Ieee.mul lib.Ieee.div lib.Ieee.ofInt
+unfolding allBelow countBelow iterBelow entriesOf packed pushed emptyArena lookupOf hasRoom allocated released countsWithin occurrencesOf wellFormed isHit isValidGeometry solved layerLt recordsOf arenasSound tracesSound layersSound viewSound viewsSound isSound advanced freshRegistry attached attachSurface createWindow createView capturePointerFor setFocus ownViewRefusal ownHits resolution alone walkIn concluded arbitrated decided verdictAt untilConsumed consumerOf walkOf chosen isTargeted traced detached freed closeSettled closeSurface hadCapture topmost detachedView isLayerHit hitsAmong viewHits arbitrationEventIn needsHits pointOf isLoss isDisconnect payloadRefusal headerRefusalIn eventRefusal pressIn effectIn receiverOf isRouterSound routeRefusal hitsFor routedArbitration routedPayload routed lib.Ieee.lt lib.Ieee.sub lib.Ieee.mul lib.Ieee.div lib.Ieee.ofInt
 examples = record {
   observing = watching;
   observe-many = table .observe-panel watched panelA watching .0 sixtyFive refl;
