@@ -1,4 +1,4 @@
--- The walk, a layer at a time from the top: what is left answers as the whole, after what is delivered already.
+-- The walk, a panel at a time from the top: what is left answers as the whole, after what is delivered already.
 use Prim.Native.Nat.{ℕ, zero, suc, _+_, _-_, _≤_, _<_}
 use mathlib.Core.Path.{_≡_, refl, sym, ap, _∙_}
 use mathlib.Core.Bool.{true, false}
@@ -10,49 +10,41 @@ use Rattle.lists.specs.Lists.{keep}
 use Rattle.lists.specs.Tables.{entriesOf, packed}
 use Rattle.lists.proofs.ListLaws.{keep-append, map-append, last-first, by-test}
 use Rattle.lists.proofs.TableLaws.{entries-packed}
-use Rattle.handles.specs.declared.GenerationalHandle.{GenerationalHandle}
 use Rattle.handles.specs.declared.OptionalHandle.the-variants.{None, Some}
 use Rattle.records.specs.declared.trace.InputDelivery.{InputDelivery}
 use Rattle.records.specs.declared.trace.Deliveries.{Deliveries}
-use Rattle.records.specs.declared.layers.Layers.{Layers}
-use Rattle.records.specs.declared.surface.SurfaceRecord.{SurfaceRecord}
-use Rattle.records.specs.declared.surface.SurfaceTable.{SurfaceTable}
-use Rattle.records.specs.Layers.{layers, recordsOf}
-use Rattle.records.specs.Surfaces.{noSurface}
 use Rattle.records.specs.Traces.{deliveries}
-use Rattle.records.proofs.LayerLaws.{record-here}
-use Rattle.composition_arbitration.specs.declared.targets.Choice.{Choice}
+use Rattle.view_panels.specs.Panels.{Panel}
 use Rattle.composition_arbitration.specs.declared.walk.Verdict.{Verdict}
 use Rattle.composition_arbitration.specs.declared.walk.Walked.{Walked}
-use Rattle.composition_arbitration.specs.Targets.{isTargeted}
-use Rattle.composition_arbitration.specs.Layers.{verdict, verdictAt, delivers, consumes, deliveryFrom, delivered, untilConsumed, walked, deliveriesOf, consumerOf, walkOf}
+use Rattle.composition_arbitration.specs.Layers.{delivers, consumes, deliveryFrom, delivered, untilConsumed, walked, deliveriesOf, consumerOf, walkOf}
 
-module _ (at : GenerationalHandle → Verdict) where
-  pub deliveries-append : (a b : List GenerationalHandle) → deliveriesOf at (a ++ b) ≡ deliveriesOf at a ++ deliveriesOf at b
+module _ (at : Panel → Verdict) where
+  pub deliveries-append : (a b : List Panel) → deliveriesOf at (a ++ b) ≡ deliveriesOf at a ++ deliveriesOf at b
   deliveries-append a b =
-      ap (map (λ h. deliveryFrom (at h) h)) (keep-append (λ h. delivers (at h)) a b)
-      ∙ map-append (λ h. deliveryFrom (at h) h) (keep (λ h. delivers (at h)) a) (keep (λ h. delivers (at h)) b)
+      ap (map (λ h. deliveryFrom (at h) (h .surface))) (keep-append (λ h. delivers (at h)) a b)
+      ∙ map-append (λ h. deliveryFrom (at h) (h .surface)) (keep (λ h. delivers (at h)) a) (keep (λ h. delivers (at h)) b)
 
-  -- the delivery of one layer
-  pub deliveries-one : (h : GenerationalHandle) → deliveriesOf at (h ∷ []) ≡ delivered (at h) h
+  -- the delivery of one panel
+  pub deliveries-one : (h : Panel) → deliveriesOf at (h ∷ []) ≡ delivered (at h) (h .surface)
   deliveries-one h = by-test (delivers (at h)) (λ t. rw t) (λ t. rw t)
 
-  length-one : (h : GenerationalHandle) → length (delivered (at h) h) ≤ 1
+  length-one : (h : Panel) → length (delivered (at h) (h .surface)) ≤ 1
   length-one h = by-test (delivers (at h)) (λ t. simp t (omega arith)) (λ t. simp t (omega arith))
 
-  pub until-stop : (h : GenerationalHandle) (l : List GenerationalHandle) → consumes (at h) ≡ true → untilConsumed at (h ∷ l) ≡ h ∷ []
+  pub until-stop : (h : Panel) (l : List Panel) → consumes (at h) ≡ true → untilConsumed at (h ∷ l) ≡ h ∷ []
   unfolding untilConsumed
   until-stop h l t = rw t
 
-  pub until-go : (h : GenerationalHandle) (l : List GenerationalHandle) → consumes (at h) ≡ false → untilConsumed at (h ∷ l) ≡ h ∷ untilConsumed at l
+  pub until-go : (h : Panel) (l : List Panel) → consumes (at h) ≡ false → untilConsumed at (h ∷ l) ≡ h ∷ untilConsumed at l
   unfolding untilConsumed
   until-go h l t = rw t
 
-  pub consumer-one : (h : GenerationalHandle) → consumes (at h) ≡ true → consumerOf at (h ∷ []) ≡ Some h
+  pub consumer-one : (h : Panel) → consumes (at h) ≡ true → consumerOf at (h ∷ []) ≡ Some (h .surface)
   unfolding consumerOf
   consumer-one h t = rw t
 
-  pub consumer-go : (h : GenerationalHandle) (l : List GenerationalHandle) → consumes (at h) ≡ false → consumerOf at (h ∷ l) ≡ consumerOf at l
+  pub consumer-go : (h : Panel) (l : List Panel) → consumes (at h) ≡ false → consumerOf at (h ∷ l) ≡ consumerOf at l
   unfolding consumerOf
   consumer-go h [] t = rw t
   consumer-go h (g ∷ l) t = refl
@@ -66,7 +58,7 @@ module _ (at : GenerationalHandle → Verdict) where
   none-delivered = refl
 
   -- ---- the loop
-  pub record Walking (l : List GenerationalHandle) (out : Deliveries) (left : ℕ) : Type 0 where
+  pub record Walking (l : List Panel) (out : Deliveries) (left : ℕ) : Type 0 where
     pub within : left ≤ length l
     pub small : length l ≤ 16
     pub room : length (entriesOf deliveries out) + left ≤ length l
@@ -74,7 +66,7 @@ module _ (at : GenerationalHandle → Verdict) where
     pub told : deliveriesOf at (walked at l) ≡ entriesOf deliveries out ++ deliveriesOf at (untilConsumed at (reverse (take left l)))
     pub consumer : consumerOf at (walked at l) ≡ consumerOf at (untilConsumed at (reverse (take left l)))
 
-  pub start : (l : List GenerationalHandle) (out : Deliveries) → length l ≤ 16 → out ≡ packed deliveries [] → Walking l out (length l)
+  pub start : (l : List Panel) (out : Deliveries) → length l ≤ 16 → out ≡ packed deliveries [] → Walking l out (length l)
   start l out h e =
       let none : entriesOf deliveries out ≡ [] = ap (entriesOf deliveries) e ∙ entries-packed deliveries [] in
       record {
@@ -86,13 +78,13 @@ module _ (at : GenerationalHandle → Verdict) where
         consumer = rw take-length;
       }
 
-  module _ (l : List GenerationalHandle) (out : Deliveries) (left : ℕ) (w : Walking l out left) (z : 0 < left) (d : GenerationalHandle) where
+  module _ (l : List Panel) (out : Deliveries) (left : ℕ) (w : Walking l out left) (z : 0 < left) (d : Panel) where
     pub turn-room : length (entriesOf deliveries out) < 16
     turn-room = omega (arith, w .room, w .small)
 
     module _ (next : Deliveries)
-        (put : next ≡ packed deliveries (entriesOf deliveries out ++ delivered (at (getD l (left - 1) d)) (getD l (left - 1) d))) where
-      one-more : entriesOf deliveries next ≡ entriesOf deliveries out ++ delivered (at (getD l (left - 1) d)) (getD l (left - 1) d)
+        (put : next ≡ packed deliveries (entriesOf deliveries out ++ delivered (at (getD l (left - 1) d)) (getD l (left - 1) d .surface))) where
+      one-more : entriesOf deliveries next ≡ entriesOf deliveries out ++ delivered (at (getD l (left - 1) d)) (getD l (left - 1) d .surface)
       one-more = ap (entriesOf deliveries) put ∙ entries-packed deliveries _
 
       pub turn : consumes (at (getD l (left - 1) d)) ≡ false → Walking l next (left - 1)
@@ -112,7 +104,7 @@ module _ (at : GenerationalHandle → Verdict) where
           }
 
       pub stop : consumes (at (getD l (left - 1) d)) ≡ true
-          → _≡_ {A = Walked} (record { deliveries = next; «consumed_by» = Some (getD l (left - 1) d) }) (walkOf at l)
+          → _≡_ {A = Walked} (record { deliveries = next; «consumed_by» = Some (getD l (left - 1) d .surface) }) (walkOf at l)
       unfolding walkOf
       stop t =
           let h = getD l (left - 1) d in
@@ -120,16 +112,9 @@ module _ (at : GenerationalHandle → Verdict) where
           ap (untilConsumed at) (last-first l left d z (w .within)) ∙ until-stop h (reverse (take (left - 1) l)) t in
           rw (w .told, w .consumer, top, put, deliveries-one h, consumer-one h t)
 
-  pub done : (l : List GenerationalHandle) (out : Deliveries) (left : ℕ) → Walking l out left → left ≤ 0
+  pub done : (l : List Panel) (out : Deliveries) (left : ℕ) → Walking l out left → left ≤ 0
       → _≡_ {A = Walked} (record { deliveries = out; «consumed_by» = None }) (walkOf at l)
   unfolding walkOf
   done l out zero w z =
       rw (w .told, w .consumer, nothing-left, none-delivered, append-nil) (ap (λ (o : Deliveries). record { deliveries = o; «consumed_by» = None }) (w .whole))
   done l out (suc k) w z = absurd (omega arith)
-
--- the verdict of a layer, by the record that stands in its place
-pub verdict-here : (surfaces : SurfaceTable) (choice : Choice) (hits : List GenerationalHandle) (t : Layers) (i : ℕ) (d : GenerationalHandle) → i < length (entriesOf layers t) → length (entriesOf layers t) ≤ 16
-    → (found : List SurfaceRecord) → found ≡ recordsOf (surfaces .records) t
-    → verdict (getD found i noSurface .descriptor .input) (isTargeted choice hits (getD (t .items) i d) (getD found i noSurface .descriptor .«accepts_text»)) ≡ verdictAt surfaces choice hits (getD (t .items) i d)
-unfolding verdictAt
-verdict-here surfaces choice hits t i d within whole found e = rw (e, record-here (surfaces .records) t i d within whole)

@@ -1,5 +1,5 @@
 -- RULES.md, Arbitrate: 8/9, 41 (over 16 hits handed in), 8/9 (for a system shortcut), 21, each after 42 and before any
--- change.
+-- change. First what one view's record, panels and registrations decide; then the call on a registry.
 use Prim.Native.Nat.{ℕ, _+_}
 use mathlib.Core.Bool.{Bool, true, false, cond}
 use mathlib.Core.List.{List, [], _∷_}
@@ -14,22 +14,27 @@ use Rattle.records.specs.declared.error.Outcome.{Outcome}
 use Rattle.records.specs.declared.error.Outcome.the-variants.{Accepted, Refused}
 use Rattle.composition_state.specs.declared.registry.Changed.{Changed}
 use Rattle.composition_state.specs.declared.registry.CompositionRegistry.{CompositionRegistry}
+use Rattle.records.specs.declared.shortcut.SlotShortcut.{SlotShortcut}
+use Rattle.records.specs.declared.surface.SurfaceTable.{SurfaceTable}
 use Rattle.records.specs.declared.trace.ArbitrationEvent.{ArbitrationEvent}
 use Rattle.records.specs.declared.trace.ArbitrationEvent.the-variants.{Pointer, PointerStack, PointerFor, PointerStackFor, Keyboard, KeyboardFor, Gamepad, GamepadFor, Text, Shortcut, SystemShortcut}
 use Rattle.records.specs.declared.trace.CompositionTrace.{CompositionTrace}
 use Rattle.records.specs.declared.trace.Hits.{Hits}
+use Rattle.records.specs.declared.view.ViewRecord.{ViewRecord}
+use Rattle.records.specs.declared.view.ViewTable.{ViewTable}
 use Rattle.records.specs.Errors.{thenRefusal, refusalIf, isAccepted}
 use Rattle.composition_state.specs.Damage.{damageRefusal}
-use Rattle.records.specs.Layers.{layers}
 use Rattle.composition_state.specs.Registry.{withTraces, settled}
+use Rattle.records.specs.Shortcuts.{shortcuts}
 use Rattle.records.specs.Traces.{hits as stateHits, deliveries}
 use Rattle.records.specs.Views.{viewAt, viewRefusal}
+use Rattle.view_panels.specs.Panels.{Panel, panelsIn}
 use Rattle.composition_shortcuts.specs.declared.resolve.Resolved.{Resolved}
 use Rattle.composition_shortcuts.specs.Resolve.{resolveSystemShortcut}
 use Rattle.composition_arbitration.specs.declared.arbitrate.Arbitrated.{Arbitrated}
 use Rattle.composition_arbitration.specs.declared.arbitrate.ArbitrationResult.{ArbitrationResult}
 use Rattle.composition_arbitration.specs.declared.walk.Walked.{Walked}
-use Rattle.composition_arbitration.specs.Layers.{verdictAt, walkOf}
+use Rattle.composition_arbitration.specs.Layers.{verdictOf, walkOf}
 use Rattle.composition_arbitration.specs.Targets.{chosen}
 use Rattle.composition_arbitration.specs.Trace.{traced}
 
@@ -58,18 +63,19 @@ hitsRefusal h = refusalIf (ltb 16 (h .len)) PortLimit
 abbrev pub unresolved : Resolved
 unresolved = record { outcome = Accepted; surface = None }
 
-unfoldable pub resolution : CompositionRegistry → GenerationalHandle → ArbitrationEvent → Resolved
-resolution r view (SystemShortcut mask) = resolveSystemShortcut r view mask
-resolution r view (Pointer hit) = unresolved
-resolution r view PointerStack = unresolved
-resolution r view (PointerFor pointer hit) = unresolved
-resolution r view (PointerStackFor pointer) = unresolved
-resolution r view Keyboard = unresolved
-resolution r view (KeyboardFor target) = unresolved
-resolution r view Gamepad = unresolved
-resolution r view (GamepadFor target) = unresolved
-resolution r view Text = unresolved
-resolution r view Shortcut = unresolved
+unfoldable pub resolutionOf : ViewTable → SurfaceTable → List SlotShortcut → GenerationalHandle → ArbitrationEvent
+    → Resolved
+resolutionOf views surfaces l view (SystemShortcut mask) = resolveSystemShortcut views surfaces view mask l
+resolutionOf views surfaces l view (Pointer hit) = unresolved
+resolutionOf views surfaces l view PointerStack = unresolved
+resolutionOf views surfaces l view (PointerFor pointer hit) = unresolved
+resolutionOf views surfaces l view (PointerStackFor pointer) = unresolved
+resolutionOf views surfaces l view Keyboard = unresolved
+resolutionOf views surfaces l view (KeyboardFor target) = unresolved
+resolutionOf views surfaces l view Gamepad = unresolved
+resolutionOf views surfaces l view (GamepadFor target) = unresolved
+resolutionOf views surfaces l view Text = unresolved
+resolutionOf views surfaces l view Shortcut = unresolved
 
 -- System shortcut: "It alone gets the event and consumes it."
 unfoldable pub alone : GenerationalHandle → Walked
@@ -80,32 +86,26 @@ abbrev pub orAlone : OptionalHandle → Walked → Walked
 orAlone (Some h) walk = alone h
 orAlone None walk = walk
 
--- the walk over a view's layers
-unfoldable pub walkIn : CompositionRegistry → GenerationalHandle → ArbitrationEvent → Hits → Walked
-walkIn r view event h =
-    let v = viewAt (r .views) view in
-    walkOf (verdictAt (r .surfaces) (chosen event v) (entriesOf stateHits h)) (entriesOf layers (v .surfaces))
+-- the walk over panels of a view, aimed by the view's record
+unfoldable pub walkOver : ViewRecord → List Panel → ArbitrationEvent → Hits → Walked
+walkOver v panels event h = walkOf (verdictOf (chosen event v) (entriesOf stateHits h)) panels
 
 -- who gets an event, and who takes it
-abbrev pub arbitration : CompositionRegistry → GenerationalHandle → ArbitrationEvent → Hits → Walked
-arbitration r view event h = orAlone (resolution r view event .surface) (walkIn r view event (ownHits event h))
+abbrev pub arbitrationOver : ViewRecord → List Panel → OptionalHandle → ArbitrationEvent → Hits → Walked
+arbitrationOver v panels winner event h = orAlone winner (walkOver v panels event (ownHits event h))
 
 -- the revision after this one; at the last revision the call is refused 21, so that case is never met
 abbrev pub nextRevision : ℕ → ℕ
 nextRevision n = cond (eqb n maxU64) n (n + 1)
 
 -- RULES.md, Arbitrate: 8/9, 41, 8/9, 21, after what the damage test says
-abbrev pub refusalAfter : Outcome → CompositionRegistry → GenerationalHandle → Hits → Outcome → Outcome
-refusalAfter damage r view own shortcut =
+abbrev pub refusalAfter : Outcome → Outcome → ℕ → Hits → Outcome → Outcome
+refusalAfter damage unknown revision own shortcut =
     thenRefusal damage
-    (thenRefusal (viewRefusal (r .views) view)
+    (thenRefusal unknown
     (thenRefusal (hitsRefusal own)
     (thenRefusal shortcut
-    (refusalIf (eqb (r .revision) maxU64) RevisionExhausted))))
-
--- the same after the registry's own damage test
-abbrev pub arbitrateRefusal : CompositionRegistry → GenerationalHandle → Hits → Outcome → Outcome
-arbitrateRefusal r view own shortcut = refusalAfter (damageRefusal r) r view own shortcut
+    (refusalIf (eqb revision maxU64) RevisionExhausted))))
 
 -- the trace keeps the event with its hits, the deliveries and the consumer
 abbrev pub traceOf : ℕ → GenerationalHandle → ArbitrationEvent → Hits → Walked → CompositionTrace
@@ -118,6 +118,34 @@ traceOf n view event own w =
       deliveries = w .deliveries;
       «consumed_by» = w .«consumed_by»;
     }
+
+-- ---- in a registry
+-- those that take part in an event of a view: panels of the view, from lowest to highest, and registrations
+pub record TakingPart : Type 0 where
+  pub panels : List Panel
+  pub registrations : List SlotShortcut
+
+-- all panels of the view, and every registration
+abbrev pub everyone : CompositionRegistry → GenerationalHandle → TakingPart
+everyone r view =
+    record {
+      panels = panelsIn (r .views) (r .surfaces) view;
+      registrations = entriesOf shortcuts (r .shortcuts);
+    }
+
+abbrev pub resolutionAmong : TakingPart → CompositionRegistry → GenerationalHandle → ArbitrationEvent → Resolved
+resolutionAmong part r view event = resolutionOf (r .views) (r .surfaces) (part .registrations) view event
+
+abbrev pub walkAmong : TakingPart → CompositionRegistry → GenerationalHandle → ArbitrationEvent → Hits → Walked
+walkAmong part r view event h = walkOver (viewAt (r .views) view) (part .panels) event h
+
+abbrev pub arbitrationAmong : TakingPart → CompositionRegistry → GenerationalHandle → ArbitrationEvent → Hits → Walked
+arbitrationAmong part r view event h =
+    arbitrationOver (viewAt (r .views) view) (part .panels) (resolutionAmong part r view event .surface) event h
+
+abbrev pub arbitrateRefusal : CompositionRegistry → GenerationalHandle → Hits → Outcome → Outcome
+arbitrateRefusal r view own shortcut =
+    refusalAfter (damageRefusal r) (viewRefusal (r .views) view) (r .revision) own shortcut
 
 abbrev pub withTrace : CompositionTrace → CompositionRegistry → CompositionRegistry
 withTrace e r = withTraces (traced (r .limits .«max_trace_entries») (r .traces) e) r
@@ -143,6 +171,21 @@ concluded r view event own shortcut w =
     (settled (arbitrateRefusal r view own shortcut) r
     (withTrace (traceOf (nextRevision (r .revision)) view event own w) r))
 
+abbrev pub arbitratedAmong : TakingPart → CompositionRegistry → GenerationalHandle → ArbitrationEvent → Hits
+    → Arbitrated
+arbitratedAmong part r view event h =
+    concluded r view event (ownHits event h) (resolutionAmong part r view event .outcome)
+    (arbitrationAmong part r view event h)
+
+-- ---- of everyone
+abbrev pub resolution : CompositionRegistry → GenerationalHandle → ArbitrationEvent → Resolved
+resolution r view event = resolutionAmong (everyone r view) r view event
+
+abbrev pub walkIn : CompositionRegistry → GenerationalHandle → ArbitrationEvent → Hits → Walked
+walkIn r view event h = walkAmong (everyone r view) r view event h
+
+abbrev pub arbitration : CompositionRegistry → GenerationalHandle → ArbitrationEvent → Hits → Walked
+arbitration r view event h = arbitrationAmong (everyone r view) r view event h
+
 unfoldable pub arbitrated : CompositionRegistry → GenerationalHandle → ArbitrationEvent → Hits → Arbitrated
-arbitrated r view event h =
-    concluded r view event (ownHits event h) (resolution r view event .outcome) (arbitration r view event h)
+arbitrated r view event h = arbitratedAmong (everyone r view) r view event h

@@ -1,4 +1,4 @@
--- RULES.md, Layers: a view's layers, from lowest to highest, are walked from the top, and a consumer ends the walk.
+-- RULES.md, Layers: panels of a view, from lowest to highest, are walked from the top, and a consumer ends the walk.
 use mathlib.Core.Bool.{Bool, true, false, cond}
 use mathlib.Core.List.{List, [], _∷_, map, reverse}
 use Rattle.lists.specs.Lists.{keep}
@@ -8,10 +8,9 @@ use Rattle.handles.specs.declared.OptionalHandle.{OptionalHandle}
 use Rattle.handles.specs.declared.OptionalHandle.the-variants.{None, Some}
 use Rattle.records.specs.declared.surface.SurfaceInputPolicy.{SurfaceInputPolicy}
 use Rattle.records.specs.declared.surface.SurfaceInputPolicy.the-variants.{Observe, Passthrough, Interactive, Exclusive}
-use Rattle.records.specs.declared.surface.SurfaceTable.{SurfaceTable}
 use Rattle.records.specs.declared.trace.InputDelivery.{InputDelivery}
-use Rattle.records.specs.Surfaces.{descriptorOf}
 use Rattle.records.specs.Traces.{deliveries}
+use Rattle.view_panels.specs.Panels.{Panel}
 use Rattle.composition_arbitration.specs.declared.targets.Choice.{Choice}
 use Rattle.composition_arbitration.specs.declared.walk.Verdict.{Verdict}
 use Rattle.composition_arbitration.specs.declared.walk.Verdict.the-variants.{Observing, NotTargeted, PassedThrough, Took, Blocks}
@@ -50,37 +49,37 @@ observes PassedThrough = false
 observes Took = false
 observes Blocks = false
 
--- the verdict of a layer: by its policy, and whether it is a target
-unfoldable pub verdictAt : SurfaceTable → Choice → List GenerationalHandle → GenerationalHandle → Verdict
-verdictAt surfaces choice hits h =
-    verdict (descriptorOf surfaces h .input) (isTargeted choice hits h (descriptorOf surfaces h .«accepts_text»))
+-- the verdict of a panel: by its policy, and whether it is a target
+unfoldable pub verdictOf : Choice → List GenerationalHandle → Panel → Verdict
+verdictOf choice hits p =
+    verdict (p .descriptor .input) (isTargeted choice hits (p .surface) (p .descriptor .«accepts_text»))
 
 abbrev pub deliveryFrom : Verdict → GenerationalHandle → InputDelivery
 deliveryFrom v h = record { surface = h; observed = observes v }
 
--- the delivery of one layer, if its verdict delivers
+-- the delivery of one panel, if its verdict delivers
 abbrev pub delivered : Verdict → GenerationalHandle → List InputDelivery
 delivered v h = cond (delivers v) (deliveryFrom v h ∷ []) []
 
-module _ (at : GenerationalHandle → Verdict) where
-  -- the layers from the top on, up to the first that consumes, with it: "A consumer ends the walk."
-  unfoldable pub untilConsumed : List GenerationalHandle → List GenerationalHandle
+module _ (at : Panel → Verdict) where
+  -- the panels from the top on, up to the first that consumes, with it: "A consumer ends the walk."
+  unfoldable pub untilConsumed : List Panel → List Panel
   untilConsumed [] = []
-  untilConsumed (h ∷ l) = h ∷ cond (consumes (at h)) [] (untilConsumed l)
+  untilConsumed (p ∷ l) = p ∷ cond (consumes (at p)) [] (untilConsumed l)
 
-  -- the layers that are walked, of those from lowest to highest
-  abbrev pub walked : List GenerationalHandle → List GenerationalHandle
+  -- the panels that are walked, of those from lowest to highest
+  abbrev pub walked : List Panel → List Panel
   walked l = untilConsumed (reverse l)
 
   -- what those walked are delivered
-  abbrev pub deliveriesOf : List GenerationalHandle → List InputDelivery
-  deliveriesOf w = map (λ h. deliveryFrom (at h) h) (keep (λ h. delivers (at h)) w)
+  abbrev pub deliveriesOf : List Panel → List InputDelivery
+  deliveriesOf w = map (λ p. deliveryFrom (at p) (p .surface)) (keep (λ p. delivers (at p)) w)
 
   -- the last walked, if it consumes
-  unfoldable pub consumerOf : List GenerationalHandle → OptionalHandle
+  unfoldable pub consumerOf : List Panel → OptionalHandle
   consumerOf [] = None
-  consumerOf (h ∷ []) = cond (consumes (at h)) (Some h) None
-  consumerOf (h ∷ g ∷ l) = consumerOf (g ∷ l)
+  consumerOf (p ∷ []) = cond (consumes (at p)) (Some (p .surface)) None
+  consumerOf (p ∷ q ∷ l) = consumerOf (q ∷ l)
 
-  unfoldable pub walkOf : List GenerationalHandle → Walked
+  unfoldable pub walkOf : List Panel → Walked
   walkOf l = record { deliveries = packed deliveries (deliveriesOf (walked l)); «consumed_by» = consumerOf (walked l) }

@@ -1,8 +1,11 @@
 // One event, arbitrated: a system shortcut's winner alone gets it, and else the walk decides.
 ghost use mathlib.Core.Path.{_≡_};
+ghost use Rattle.lists.specs.Tables.{entriesOf};
+ghost use Rattle.records.specs.Shortcuts.{shortcuts as stored};
+ghost use Rattle.view_panels.specs.Panels.{standing};
 ghost use Rattle.composition_state.specs.Registry.{withTraces, withRevision};
-ghost use Rattle.composition_arbitration.specs.Arbitration.{isStack, ownHits, hitsRefusal, resolution, alone, orAlone, walkIn, unresolved, nextRevision, refusalAfter, traceOf, arbitrated};
-ghost use Rattle.composition_arbitration.specs.Decisions.{decided, resultOf};
+ghost use Rattle.composition_arbitration.specs.Arbitration.{isStack, ownHits, hitsRefusal, resolutionOf, alone, orAlone, walkOver, unresolved, nextRevision, refusalAfter, traceOf, arbitrated};
+ghost use Rattle.composition_arbitration.specs.Decisions.{decidedWith, decided, resultOf};
 use crate::walk::Walked;
 use composition_shortcuts::resolve::Resolved;
 use composition_shortcuts::resolve::resolve_system_shortcut;
@@ -11,12 +14,18 @@ use handles::GenerationalHandle;
 use handles::OptionalHandle;
 use records::error::CompositionError;
 use records::error::Outcome;
+use records::shortcut::Shortcuts;
+use records::surface::SurfaceTable;
 use records::trace::ArbitrationEvent;
 use records::trace::CompositionTrace;
 use records::trace::Deliveries;
 use records::trace::Hits;
 use records::trace::InputDelivery;
 use records::trace::Traces;
+use records::view::ViewRecord;
+use records::view::ViewTable;
+use view_panels::ViewPanels;
+use view_panels::gather;
 
 pub struct ArbitrationResult {
     pub revision: u64,
@@ -51,7 +60,7 @@ pub fn is_stack(event: ArbitrationEvent) -> bool
 }
 
 // What is handed in beside an event that has no hits is left out.
-fn own_hits(event: ArbitrationEvent, hits: Hits) -> Hits
+pub fn own_hits(event: ArbitrationEvent, hits: Hits) -> Hits
     ensures { λ r. ⌜ r ≡ ownHits event hits ⌝ }
 {
     if is_stack(event) {
@@ -77,14 +86,16 @@ fn unresolved() -> Resolved
 
 // Only a system shortcut looks for a registration.
 fn resolve(
-    registry: CompositionRegistry,
+    views: ViewTable,
+    surfaces: SurfaceTable,
+    shortcuts: Shortcuts,
     view: GenerationalHandle,
     event: ArbitrationEvent,
 ) -> Resolved
-    ensures { λ r. ⌜ r ≡ resolution registry view event ⌝ }
+    ensures { λ r. ⌜ r ≡ resolutionOf views surfaces (entriesOf stored shortcuts) view event ⌝ }
 {
     if let ArbitrationEvent::SystemShortcut { class_mask } = event {
-        return resolve_system_shortcut(registry, view, class_mask);
+        return resolve_system_shortcut(views, surfaces, shortcuts, view, class_mask);
     }
     unresolved()
 }
@@ -113,23 +124,16 @@ fn or_alone(winner: OptionalHandle, walked: Walked) -> Walked
     }
 }
 
-// The walk over the layers of a view.
-fn walk_in(
-    registry: CompositionRegistry,
-    view: GenerationalHandle,
-    event: ArbitrationEvent,
-    hits: Hits,
-) -> Walked
-    ensures { λ r. ⌜ r ≡ walkIn registry view event hits ⌝ }
+// The walk over panels of a view, aimed by the view's record.
+fn walk_over(record: ViewRecord, panels: ViewPanels, event: ArbitrationEvent, hits: Hits) -> Walked
+    ensures { λ r. ⌜ r ≡ walkOver «record» (standing panels) event hits ⌝ }
 {
-    let record = registry.views.record(view);
-    let layers = record.surfaces;
     let choice = crate::targets::choose(event, record);
-    crate::walk::walk_layers(registry.surfaces, choice, hits, layers)
+    crate::walk::walk_layers(panels, choice, hits)
 }
 
 // At the last revision the call is refused 21, so its first case is never met by an accepted call.
-fn next_revision(revision: u64) -> u64
+pub fn next_revision(revision: u64) -> u64
     ensures { λ r. ⌜ r ≡ nextRevision revision ⌝ }
 {
     if revision == u64::MAX {
@@ -141,22 +145,21 @@ fn next_revision(revision: u64) -> u64
 // 21 comes before any change here, unlike in the other calls.
 fn arbitrate_refusal(
     damage: Outcome,
-    registry: CompositionRegistry,
-    view: GenerationalHandle,
+    unknown: Outcome,
+    revision: u64,
     hits: Hits,
     resolved: Outcome,
 ) -> Outcome
-    ensures { λ r. ⌜ r ≡ refusalAfter damage registry view hits resolved ⌝ }
+    ensures { λ r. ⌜ r ≡ refusalAfter damage unknown revision hits resolved ⌝ }
 {
     let exhausted = records::error::refuse_if(
-        registry.revision == u64::MAX,
+        revision == u64::MAX,
         CompositionError::RevisionExhausted,
     );
-    let unknown = registry.views.refusal(view);
     damage.then(unknown.then(hits_refusal(hits).then(resolved.then(exhausted))))
 }
 
-fn trace_of(
+pub fn trace_of(
     revision: u64,
     view: GenerationalHandle,
     event: ArbitrationEvent,
@@ -183,7 +186,31 @@ pub struct Decision {
     pub trace: CompositionTrace,
 }
 
-// Who gets the event, and whether the call is refused, once the registry is tested for damage.
+// Who gets the event, and whether the call is refused: by what the damage test and the view's handle refuse, the
+// registry's revision, the view's record, the panels that take part, and what was resolved.
+pub fn decide_with(
+    damage: Outcome,
+    unknown: Outcome,
+    revision: u64,
+    record: ViewRecord,
+    panels: ViewPanels,
+    resolved: Resolved,
+    view: GenerationalHandle,
+    event: ArbitrationEvent,
+    hits: Hits,
+) -> Decision
+    ensures { λ r. ⌜ r ≡ decidedWith damage unknown revision «record» (standing panels) resolved view event hits ⌝ }
+{
+    let own = own_hits(event, hits);
+    let shortcut = resolved.outcome;
+    let winner = resolved.surface;
+    let walked = or_alone(winner, walk_over(record, panels, event, own));
+    let outcome = arbitrate_refusal(damage, unknown, revision, own, shortcut);
+    let trace = trace_of(next_revision(revision), view, event, own, walked);
+    Decision { outcome, trace }
+}
+
+// The same in a registry, once it is tested for damage: everyone takes part.
 pub fn decide(
     damage: Outcome,
     registry: CompositionRegistry,
@@ -193,14 +220,29 @@ pub fn decide(
 ) -> Decision
     ensures { λ r. ⌜ r ≡ decided damage registry view event hits ⌝ }
 {
-    let own = own_hits(event, hits);
-    let resolved = resolve(registry, view, event);
-    let shortcut = resolved.outcome;
-    let winner = resolved.surface;
-    let walked = or_alone(winner, walk_in(registry, view, event, own));
-    let outcome = arbitrate_refusal(damage, registry, view, own, shortcut);
-    let trace = trace_of(next_revision(registry.revision), view, event, own, walked);
-    Decision { outcome, trace }
+    let record = registry.views.record(view);
+    let layers = record.surfaces;
+    let records = registry.surfaces.records;
+    let panels = gather(records, layers);
+    let resolved = resolve(
+        registry.views,
+        registry.surfaces,
+        registry.shortcuts,
+        view,
+        event,
+    );
+    let unknown = registry.views.refusal(view);
+    decide_with(
+        damage,
+        unknown,
+        registry.revision,
+        record,
+        panels,
+        resolved,
+        view,
+        event,
+        hits,
+    )
 }
 
 // The answer of an accepted arbitration.

@@ -1,23 +1,21 @@
-// The walk over a view's layers, from the top until one consumes the event.
+// The walk over panels of a view, from the top until one consumes the event.
 ghost use mathlib.Core.Path.{_≡_};
 ghost use mathlib.Core.List.{_++_};
 ghost use Prim.Native.Nat.{_<_};
 ghost use lib.ListN.{length};
 ghost use Rattle.lists.specs.Tables.{entriesOf, packed, pushed};
-ghost use Rattle.records.specs.Layers.{layers as stateLayers};
 ghost use Rattle.records.specs.Traces.{hits as stateHits, deliveries as stateDeliveries};
-ghost use Rattle.composition_arbitration.specs.Targets.{isTargeted};
-ghost use Rattle.composition_arbitration.specs.Layers.{verdict, delivers, consumes, observes, delivered, verdictAt, walkOf};
+ghost use Rattle.view_panels.specs.Panels.{standing};
+ghost use Rattle.composition_arbitration.specs.Layers.{verdict, delivers, consumes, observes, delivered, verdictOf, walkOf};
 use crate::targets::Choice;
 use handles::GenerationalHandle;
 use handles::OptionalHandle;
-use records::layers::Layers;
 use records::surface::SurfaceInputPolicy;
 use records::surface::SurfaceRecord;
-use records::surface::SurfaceTable;
 use records::trace::Deliveries;
 use records::trace::Hits;
 use records::trace::InputDelivery;
+use view_panels::ViewPanels;
 
 // What a layer does with an event.
 pub enum Verdict {
@@ -122,15 +120,15 @@ fn deliver(deliveries: Deliveries, surface: GenerationalHandle, verdict: Verdict
     deliveries
 }
 
-// The verdict of a layer, by the record of its panel.
+// The verdict of a panel, by its record.
 fn verdict_of(
     record: SurfaceRecord,
     choice: Choice,
     hits: Hits,
     surface: GenerationalHandle,
 ) -> Verdict
-    ensures { λ r. ⌜ r ≡ verdict («record» .descriptor .input)
-        (isTargeted choice (entriesOf stateHits hits) surface («record» .descriptor .«accepts_text»)) ⌝ }
+    ensures { λ r. ⌜ r ≡ verdictOf choice (entriesOf stateHits hits)
+        (record { surface = surface; descriptor = «record» .descriptor }) ⌝ }
 {
     let descriptor = record.descriptor;
     let input = descriptor.input;
@@ -138,13 +136,12 @@ fn verdict_of(
     verdict_for(input, is_targeted)
 }
 
-// The deliveries and the consumer, with the layers walked from the top.
-pub fn walk_layers(surfaces: SurfaceTable, choice: Choice, hits: Hits, layers: Layers) -> Walked
-    ensures { λ r. ⌜ r ≡ walkOf (verdictAt surfaces choice (entriesOf stateHits hits))
-        (entriesOf stateLayers layers) ⌝ }
+// The deliveries and the consumer, with the panels walked from the top.
+pub fn walk_layers(panels: ViewPanels, choice: Choice, hits: Hits) -> Walked
+    ensures { λ r. ⌜ r ≡ walkOf (verdictOf choice (entriesOf stateHits hits)) (standing panels) ⌝ }
 {
-    let records = surfaces.records;
-    let found = layers.records_of(records);
+    let layers = panels.layers;
+    let found = panels.records;
     let mut deliveries = Deliveries::new();
     let mut left = layers.count();
     while 0 < left {

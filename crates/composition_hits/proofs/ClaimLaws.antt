@@ -1,19 +1,20 @@
 -- The claims about the hit test, by the laws of keep and reverse and by the buffer's definition.
 use mathlib.Core.Path.{ap, _∙_}
-use mathlib.Core.List.{reverse, reverse-reverse}
-use Rattle.lists.specs.Tables.{entriesOf}
+use mathlib.Core.List.{List, reverse, reverse-reverse}
+use Rattle.lists.specs.Lists.{keep}
 use Rattle.lists.proofs.ListLaws.{keep-reverse}
-use Rattle.records.specs.Layers.{layers}
+use Rattle.view_panels.specs.Panels.{Panel, handlesOf}
+use Rattle.view_panels.proofs.PanelLaws.{handles-reverse}
 use Rattle.composition_hits.specs.Buffer.{written}
-use Rattle.composition_hits.specs.HitTest.{isLayerHit, layersOf, hitsAmong, viewHits, hitNumbers, bufferAfter}
+use Rattle.composition_hits.specs.HitTest.{isPanelHit, hitsAmong, hitNumbers, bufferAfter}
 use Rattle.composition_hits.specs.Claims.{HitClaims}
 
 pub claims : HitClaims
-unfolding viewHits hitsAmong bufferAfter hitNumbers written
+unfolding hitsAmong bufferAfter hitNumbers written
 claims = record {
-  layer-order = λ r view p.
-      let l = entriesOf layers (layersOf (r .views) view) in
-      ap reverse (keep-reverse (isLayerHit (r .surfaces) p) l) ∙ reverse-reverse _;
+  layer-order = λ p l.
+      let kept = keep (isPanelHit p) l in
+      ap (λ (x : List Panel). reverse (handlesOf x)) (keep-reverse (isPanelHit p) l) ∙ ap reverse (handles-reverse kept) ∙ reverse-reverse (handlesOf kept);
   refused = λ r view p old e h. rw h;
   accepted = λ r view p old h. rw h;
 }

@@ -5,7 +5,6 @@ use mathlib.Core.List.{List, [], _∷_, reverse}
 use lib.ListN.{length}
 use lib.Dec.{ltb}
 use Rattle.lists.specs.Lists.{keep}
-use Rattle.lists.specs.Tables.{entriesOf}
 use Rattle.geometry.specs.Surface.{isHit}
 use Rattle.geometry.specs.declared.transform.Point.{Point}
 use Rattle.handles.specs.declared.GenerationalHandle.{GenerationalHandle}
@@ -14,23 +13,21 @@ use Rattle.records.specs.declared.error.Outcome.{Outcome}
 use Rattle.records.specs.declared.error.Outcome.the-variants.{Accepted, Refused}
 use Rattle.records.specs.declared.layers.Layers.{Layers}
 use Rattle.composition_state.specs.declared.registry.CompositionRegistry.{CompositionRegistry}
-use Rattle.records.specs.declared.surface.SurfaceTable.{SurfaceTable}
 use Rattle.records.specs.declared.view.ViewTable.{ViewTable}
 use Rattle.records.specs.Errors.{thenRefusal, refusalIf}
 use Rattle.composition_state.specs.Damage.{damageRefusal}
-use Rattle.records.specs.Layers.{layers}
-use Rattle.records.specs.Surfaces.{descriptorOf}
 use Rattle.records.specs.Views.{viewAt, viewRefusal}
+use Rattle.view_panels.specs.Panels.{Panel, handlesOf, panelsIn}
 use Rattle.composition_hits.specs.declared.stack.HitTest.{HitTest}
 use Rattle.composition_hits.specs.Buffer.{numbersOf, written}
 
--- a layer passes the panel test at a point
-unfoldable pub isLayerHit : SurfaceTable → Point → GenerationalHandle → Bool
-isLayerHit surfaces p h = isHit (descriptorOf surfaces h .geometry) (p .«x_milli») (p .«y_milli»)
+-- a panel passes the panel test at a point
+abbrev pub isPanelHit : Point → Panel → Bool
+isPanelHit p s = isHit (s .descriptor .geometry) (p .«x_milli») (p .«y_milli»)
 
--- the layers from the top that pass it, of layers from the lowest on
-unfoldable pub hitsAmong : SurfaceTable → Point → List GenerationalHandle → List GenerationalHandle
-hitsAmong surfaces p l = keep (isLayerHit surfaces p) (reverse l)
+-- those from the top that pass it, of panels from the lowest on
+unfoldable pub hitsAmong : Point → List Panel → List GenerationalHandle
+hitsAmong p l = handlesOf (keep (isPanelHit p) (reverse l))
 
 -- a panel that is hit, and none of one that is not
 abbrev pub listedIf : Bool → GenerationalHandle → List GenerationalHandle
@@ -40,9 +37,10 @@ listedIf false h = []
 abbrev pub layersOf : ViewTable → GenerationalHandle → Layers
 layersOf views view = viewAt views view .surfaces
 
+-- ---- in a registry
 -- the hits of a view, topmost first
 unfoldable pub viewHits : CompositionRegistry → GenerationalHandle → Point → List GenerationalHandle
-viewHits r view p = hitsAmong (r .surfaces) p (entriesOf layers (layersOf (r .views) view))
+viewHits r view p = hitsAmong p (panelsIn (r .views) (r .surfaces) view)
 
 -- 42, 8/9, 41 (a buffer shorter than 32 numbers)
 abbrev pub hitTestRefusal : CompositionRegistry → GenerationalHandle → ℕ → Outcome

@@ -3,10 +3,9 @@ ghost use mathlib.Core.Path.{_≡_};
 ghost use Prim.Native.Nat.{_≤_};
 ghost use denote.Ref.{ptr};
 ghost use lib.ListN.{length};
-ghost use Rattle.lists.specs.Tables.{entriesOf};
 ghost use Rattle.records.specs.Errors.{numberOf};
-ghost use Rattle.records.specs.Layers.{layers as stateLayers};
 ghost use Rattle.geometry.specs.Surface.{isHit};
+ghost use Rattle.view_panels.specs.Panels.{standing};
 ghost use Rattle.composition_hits.specs.Buffer.{written, numbersOf};
 ghost use Rattle.composition_hits.specs.HitTest.{hitsAmong, layersOf, hitTestRefusal, hitNumbers, hitTest, bufferAfter};
 use composition_state::registry::CompositionRegistry;
@@ -17,8 +16,9 @@ use records::error::Outcome;
 use records::error::number;
 use records::layers::Layers;
 use records::surface::SurfaceRecord;
-use records::surface::SurfaceTable;
 use records::view::ViewTable;
+use view_panels::ViewPanels;
+use view_panels::gather;
 
 // The refusal, and how many numbers stand at the front of the buffer.
 pub struct HitTest {
@@ -37,14 +37,14 @@ pub fn is_record_hit(record: SurfaceRecord, point: Point) -> bool
 }
 
 // The hits' numbers at the front of the buffer. Answers how many numbers.
-fn fill(surfaces: SurfaceTable, layers: Layers, point: Point, buffer: &mut [u64]) -> usize
+fn fill(panels: ViewPanels, point: Point, buffer: &mut [u64]) -> usize
     requires { ⌜ 32 ≤ length (now buffer) ⌝ }
-    ensures place { λ r. ⌜ r ≡ length (numbersOf (hitsAmong surfaces point (entriesOf stateLayers layers))) ⌝ }
+    ensures place { λ r. ⌜ r ≡ length (numbersOf (hitsAmong point (standing panels))) ⌝ }
     ensures filled { λ r. ⌜ now (buffer .exit)
-        ≡ written (now (buffer .entry)) (numbersOf (hitsAmong surfaces point (entriesOf stateLayers layers))) ⌝ }
+        ≡ written (now (buffer .entry)) (numbersOf (hitsAmong point (standing panels))) ⌝ }
 {
-    let records = surfaces.records;
-    let found = layers.records_of(records);
+    let layers = panels.layers;
+    let found = panels.records;
     let mut left = layers.count();
     let mut at: usize = 0;
     while 0 < left {
@@ -89,8 +89,9 @@ pub fn hit_test_into(
 {
     let refusal = hit_test_refusal(registry, view, buffer.len());
     if refusal.is_accepted() {
-        let layers = layers_of(registry.views, view);
-        let numbers = fill(registry.surfaces, layers, point, buffer);
+        let records = registry.surfaces.records;
+        let panels = gather(records, layers_of(registry.views, view));
+        let numbers = fill(panels, point, buffer);
         return HitTest {
             outcome: refusal,
             numbers,

@@ -4,17 +4,17 @@ ghost use mathlib.Core.List.{_++_};
 ghost use Prim.Native.Nat.{_<_};
 ghost use lib.ListN.{length};
 ghost use Rattle.lists.specs.Tables.{entriesOf, packed, pushed};
-ghost use Rattle.records.specs.Layers.{layers as stateLayers};
 ghost use Rattle.records.specs.Traces.{hits as stateHits};
+ghost use Rattle.view_panels.specs.Panels.{standing};
 ghost use Rattle.composition_hits.specs.HitTest.{hitsAmong, listedIf, viewHits};
 use crate::stack::is_record_hit;
 use crate::stack::layers_of;
 use composition_state::registry::CompositionRegistry;
 use geometry::transform::Point;
 use handles::GenerationalHandle;
-use records::layers::Layers;
-use records::surface::SurfaceTable;
 use records::trace::Hits;
+use view_panels::ViewPanels;
+use view_panels::gather;
 
 fn push(hits: Hits, surface: GenerationalHandle) -> Hits
     requires { ⌜ hits .len < 16 ⌝ }
@@ -38,11 +38,12 @@ fn push_if(hits: Hits, surface: GenerationalHandle, is_hit: bool) -> Hits
     hits
 }
 
-fn list_hits(surfaces: SurfaceTable, layers: Layers, point: Point) -> Hits
-    ensures { λ r. ⌜ r ≡ packed stateHits (hitsAmong surfaces point (entriesOf stateLayers layers)) ⌝ }
+// The panels under a point, topmost first.
+pub fn list_hits(panels: ViewPanels, point: Point) -> Hits
+    ensures { λ r. ⌜ r ≡ packed stateHits (hitsAmong point (standing panels)) ⌝ }
 {
-    let records = surfaces.records;
-    let found = layers.records_of(records);
+    let layers = panels.layers;
+    let found = panels.records;
     let mut hits = Hits::new();
     let mut left = layers.count();
     while 0 < left {
@@ -58,5 +59,6 @@ fn list_hits(surfaces: SurfaceTable, layers: Layers, point: Point) -> Hits
 pub fn view_hits(registry: CompositionRegistry, view: GenerationalHandle, point: Point) -> Hits
     ensures { λ r. ⌜ r ≡ packed stateHits (viewHits registry view point) ⌝ }
 {
-    list_hits(registry.surfaces, layers_of(registry.views, view), point)
+    let records = registry.surfaces.records;
+    list_hits(gather(records, layers_of(registry.views, view)), point)
 }

@@ -12,9 +12,9 @@ use Rattle.composition_shortcuts.proofs.SetLaws.{empty-fits, stores, ma
 pub claims : ShortcutClaims
 unfolding resolveSystemShortcut registerSurfaceSystemShortcutSet
 claims = record {
-  winner-wins = λ r view mask h e. wins r view mask h (resolved-some (own r view mask) (winner r view mask) h e);
-  none-counts = λ r view mask a e. none-counts r view mask (resolved-none (own r view mask) (winner r view mask) a e);
-  none-wins = λ r view mask f. none-resolved (own r view mask) (winner r view mask) (none-wins r view mask f);
+  winner-wins = λ views s view mask l h e. wins views s view mask l h (resolved-some (own views s view mask l) (winner views s view mask l) h e);
+  none-counts = λ views s view mask l a e. none-counts views s view mask l (resolved-none (own views s view mask l) (winner views s view mask l) a e);
+  none-wins = λ views s view mask l f. none-resolved (own views s view mask l) (winner views s view mask l) (none-wins views s view mask l f);
   one-winner = one-winner;
   bit-shared = bit-shared;
   shared-bit = shared-bit;

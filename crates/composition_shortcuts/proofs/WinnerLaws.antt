@@ -7,16 +7,15 @@ use mathlib.Core.List.{List, [], _∷_, map, List·Memᴰ, List·Memᴰ·head, L
 use mathlib.Core.Option.{Option}
 use native.Mathlib.Omega.{arith}
 use Rattle.lists.specs.Lists.{keep}
-use Rattle.lists.specs.Tables.{entriesOf}
 use Rattle.lists.proofs.ListLaws.{by-test, clash}
 use Rattle.handles.specs.declared.GenerationalHandle.{GenerationalHandle}
 use Rattle.handles.specs.declared.OptionalHandle.{OptionalHandle}
 use Rattle.handles.specs.declared.OptionalHandle.the-variants as O
 use Rattle.records.specs.declared.error.Outcome.{Outcome}
 use Rattle.records.specs.declared.error.Outcome.the-variants.{Accepted, Refused}
-use Rattle.composition_state.specs.declared.registry.CompositionRegistry.{CompositionRegistry}
 use Rattle.records.specs.declared.shortcut.SlotShortcut.{SlotShortcut}
-use Rattle.records.specs.Shortcuts.{shortcuts}
+use Rattle.records.specs.declared.surface.SurfaceTable.{SurfaceTable}
+use Rattle.records.specs.declared.view.ViewTable.{ViewTable}
 use Rattle.composition_shortcuts.specs.declared.candidate.Candidate.{Candidate}
 use Rattle.composition_shortcuts.specs.declared.candidate.OptionalCandidate.the-variants.{None, Some}
 use Rattle.composition_shortcuts.specs.Greatest.{greatest}
@@ -69,48 +68,45 @@ none-resolved (Refused x) w e = refl
 abbrev named : Option Candidate → OptionalHandle
 named g = winnerOf (optional g)
 
-module _ (r : CompositionRegistry) (view : GenerationalHandle) (mask : ℕ) where
+module _ (views : ViewTable) (surfaces : SurfaceTable) (view : GenerationalHandle) (mask : ℕ) (l : List SlotShortcut) where
   abbrev counted : SlotShortcut → Bool
-  counted = counts (r .views) (r .surfaces) view mask
+  counted = counts views surfaces view mask
 
   abbrev compared : SlotShortcut → Candidate
-  compared = candidateOf (r .surfaces) view
-
-  abbrev table : List SlotShortcut
-  table = entriesOf shortcuts (r .shortcuts)
+  compared = candidateOf surfaces view
 
   abbrev listed : List Candidate
-  listed = candidates (r .views) (r .surfaces) view mask table
+  listed = candidates views surfaces view mask l
 
   abbrev pub own : Outcome
-  own = ownViewRefusal (r .views .arena) (r .surfaces) mask table
+  own = ownViewRefusal (views .arena) surfaces mask l
 
-  panel-is : (s : SlotShortcut) → compared s .surface ≡ ownerOf (r .surfaces .arena) s
+  panel-is : (s : SlotShortcut) → compared s .surface ≡ ownerOf (surfaces .arena) s
   unfolding candidateOf
   panel-is s = refl
 
-  pub wins : (h : GenerationalHandle) → winner r view mask ≡ O.Some h → Wins r view mask h
+  pub wins : (h : GenerationalHandle) → winner views surfaces view mask l ≡ O.Some h → Wins views surfaces view mask l h
   wins h e = by-option (greatest isLess listed)
       (λ g. some≢none (sym e ∙ ap named g))
       (λ b g.
       let is : b .surface ≡ h = same-handle (sym (ap named g) ∙ e) in
-      let k = kept-from counted compared table b (greatest-among order listed b g) in
+      let k = kept-from counted compared l b (greatest-among order listed b g) in
       record {
         registration = k .0;
         owned = sym (panel-is (k .0)) ∙ ap (λ (x : Candidate). x .surface) (sym (k .3)) ∙ is;
         counting = record { stored = k .1; counted = k .2 };
-        unbeaten = λ s c. rw (sym (k .3)) (greatest-top order listed b g (compared s) (kept-in counted compared table s (c .stored) (c .counted)));
+        unbeaten = λ s c. rw (sym (k .3)) (greatest-top order listed b g (compared s) (kept-in counted compared l s (c .stored) (c .counted)));
       })
 
-  pub none-counts : winner r view mask ≡ O.None → (s : SlotShortcut) → Counts r view mask s → ⊥
+  pub none-counts : winner views surfaces view mask l ≡ O.None → (s : SlotShortcut) → Counts views surfaces view mask l s → ⊥
   none-counts e s c = by-option (greatest isLess listed)
-      (λ g. List·Memᴰ·not-nil (rw (greatest-none order listed g) at (kept-in counted compared table s (c .stored) (c .counted))))
+      (λ g. List·Memᴰ·not-nil (rw (greatest-none order listed g) at (kept-in counted compared l s (c .stored) (c .counted))))
       (λ b g. some≢none (sym (ap named g) ∙ e))
 
-  pub none-wins : ((s : SlotShortcut) → Counts r view mask s → ⊥) → winner r view mask ≡ O.None
+  pub none-wins : ((s : SlotShortcut) → Counts views surfaces view mask l s → ⊥) → winner views surfaces view mask l ≡ O.None
   none-wins f = by-option (greatest isLess listed)
       (λ g. ap named g)
-      (λ b g. let k = kept-from counted compared table b (greatest-among order listed b g) in absurd (f (k .0) (record { stored = k .1; counted = k .2 })))
+      (λ b g. let k = kept-from counted compared l b (greatest-among order listed b g) in absurd (f (k .0) (record { stored = k .1; counted = k .2 })))
 
 pub one-winner : (a b : Candidate) → isLess a b ≡ false → isLess b a ≡ false → a .surface ≡ b .surface
 one-winner a b p q = by-test (sameCandidate a b)

@@ -2,7 +2,7 @@
 use Prim.Native.Nat.{ℕ, _<_, _/_, _%_, _^_}
 use mathlib.Core.Path.{_≡_}
 use mathlib.Core.Bool.{true, false}
-use mathlib.Core.List.{[], _∷_, List·Memᴰ}
+use mathlib.Core.List.{List, [], _∷_, List·Memᴰ}
 use Rattle.lists.specs.Tables.{entriesOf, packed}
 use Rattle.lists.specs.Numbers.{maxU64}
 use Rattle.handles.specs.declared.arena.SlotStatus.the-variants.{Live}
@@ -13,6 +13,8 @@ use Rattle.composition_state.specs.declared.registry.CompositionRegistry.{Compo
 use Rattle.records.specs.declared.shortcut.SlotShortcut.{SlotShortcut}
 use Rattle.records.specs.declared.shortcut.SurfaceShortcutRegistration.{SurfaceShortcutRegistration}
 use Rattle.records.specs.declared.surface.SurfaceInputPolicy.the-variants.{Observe}
+use Rattle.records.specs.declared.surface.SurfaceTable.{SurfaceTable}
+use Rattle.records.specs.declared.view.ViewTable.{ViewTable}
 use Rattle.composition_state.specs.Damage.{isSound}
 use Rattle.records.specs.Errors.{numberOf}
 use Rattle.composition_state.specs.Settles.{Settles}
@@ -25,18 +27,20 @@ use Rattle.composition_shortcuts.specs.Scope.{sharesBit, ownerOf, counts
 use Rattle.composition_shortcuts.specs.Candidates.{candidateOf, isLess}
 use Rattle.composition_shortcuts.specs.Resolve.{resolveSystemShortcut}
 
--- a registration of the table that counts
-pub record Counts (r : CompositionRegistry) (view : GenerationalHandle) (mask : ℕ) (s : SlotShortcut) : Type 0 where
-  pub stored : List·Memᴰ s (entriesOf shortcuts (r .shortcuts))
-  pub counted : counts (r .views) (r .surfaces) view mask s ≡ true
+module _ (views : ViewTable) (surfaces : SurfaceTable) (view : GenerationalHandle) (mask : ℕ)
+    (l : List SlotShortcut) where
+  -- a registration of the list that counts
+  pub record Counts (s : SlotShortcut) : Type 0 where
+    pub stored : List·Memᴰ s l
+    pub counted : counts views surfaces view mask s ≡ true
 
--- the panel's registration counts, and nothing that counts is greater
-pub record Wins (r : CompositionRegistry) (view : GenerationalHandle) (mask : ℕ) (h : GenerationalHandle) : Type 0 where
-  pub registration : SlotShortcut
-  pub owned : ownerOf (r .surfaces .arena) registration ≡ h
-  pub counting : Counts r view mask registration
-  pub unbeaten : (s : SlotShortcut) → Counts r view mask s
-      → isLess (candidateOf (r .surfaces) view registration) (candidateOf (r .surfaces) view s) ≡ false
+  -- the panel's registration counts, and nothing that counts is greater
+  pub record Wins (h : GenerationalHandle) : Type 0 where
+    pub registration : SlotShortcut
+    pub owned : ownerOf (surfaces .arena) registration ≡ h
+    pub counting : Counts registration
+    pub unbeaten : (s : SlotShortcut) → Counts s
+        → isLess (candidateOf surfaces view registration) (candidateOf surfaces view s) ≡ false
 
 -- bit k of the 64 stands in both masks
 pub record Shared (a b k : ℕ) : Type 0 where
@@ -55,15 +59,20 @@ abbrev pub setNumber : CompositionRegistry → GenerationalHandle → Registrati
 setNumber r h t = numberOf (registerSurfaceSystemShortcutSet r h t (r .revision) .outcome)
 
 pub record ShortcutClaims : Type 0 where
-  -- the greatest of those that count wins
-  pub winner-wins : (r : CompositionRegistry) (view : GenerationalHandle) (mask : ℕ) (h : GenerationalHandle)
-      → resolveSystemShortcut r view mask .surface ≡ Some h → Wins r view mask h
+  -- the greatest of those that count wins, of any list of registrations
+  pub winner-wins : (views : ViewTable) (surfaces : SurfaceTable) (view : GenerationalHandle) (mask : ℕ)
+      (l : List SlotShortcut) (h : GenerationalHandle)
+      → resolveSystemShortcut views surfaces view mask l .surface ≡ Some h → Wins views surfaces view mask l h
   -- RULES.md, System shortcut: none is answered exactly if none counts
-  pub none-counts : (r : CompositionRegistry) (view : GenerationalHandle) (mask : ℕ)
-      → resolveSystemShortcut r view mask .outcome ≡ Accepted → resolveSystemShortcut r view mask .surface ≡ None
-      → (s : SlotShortcut) → Counts r view mask s → ⊥
-  pub none-wins : (r : CompositionRegistry) (view : GenerationalHandle) (mask : ℕ)
-      → ((s : SlotShortcut) → Counts r view mask s → ⊥) → resolveSystemShortcut r view mask .surface ≡ None
+  pub none-counts : (views : ViewTable) (surfaces : SurfaceTable) (view : GenerationalHandle) (mask : ℕ)
+      (l : List SlotShortcut)
+      → resolveSystemShortcut views surfaces view mask l .outcome ≡ Accepted
+      → resolveSystemShortcut views surfaces view mask l .surface ≡ None
+      → (s : SlotShortcut) → Counts views surfaces view mask l s → ⊥
+  pub none-wins : (views : ViewTable) (surfaces : SurfaceTable) (view : GenerationalHandle) (mask : ℕ)
+      (l : List SlotShortcut)
+      → ((s : SlotShortcut) → Counts views surfaces view mask l s → ⊥)
+      → resolveSystemShortcut views surfaces view mask l .surface ≡ None
   -- there is one winner: candidates of which neither is less are of one panel
   pub one-winner : (a b : Candidate) → isLess a b ≡ false → isLess b a ≡ false → a .surface ≡ b .surface
   -- a 64-bit and is not 0 exactly if some bit stands in both

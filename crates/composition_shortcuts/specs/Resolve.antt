@@ -2,17 +2,14 @@
 use Prim.Native.Nat.{ℕ}
 use mathlib.Core.List.{List, map}
 use Rattle.lists.specs.Lists.{keep}
-use Rattle.lists.specs.Tables.{entriesOf}
 use Rattle.handles.specs.declared.GenerationalHandle.{GenerationalHandle}
 use Rattle.handles.specs.declared.OptionalHandle.{OptionalHandle}
 use Rattle.handles.specs.declared.OptionalHandle.the-variants as O
 use Rattle.records.specs.declared.error.Outcome.{Outcome}
 use Rattle.records.specs.declared.error.Outcome.the-variants.{Accepted, Refused}
-use Rattle.composition_state.specs.declared.registry.CompositionRegistry.{CompositionRegistry}
 use Rattle.records.specs.declared.shortcut.SlotShortcut.{SlotShortcut}
 use Rattle.records.specs.declared.surface.SurfaceTable.{SurfaceTable}
 use Rattle.records.specs.declared.view.ViewTable.{ViewTable}
-use Rattle.records.specs.Shortcuts.{shortcuts}
 use Rattle.composition_shortcuts.specs.declared.candidate.Candidate.{Candidate}
 use Rattle.composition_shortcuts.specs.declared.candidate.OptionalCandidate.{OptionalCandidate}
 use Rattle.composition_shortcuts.specs.declared.candidate.OptionalCandidate.the-variants as C
@@ -40,10 +37,10 @@ resolvedWith Accepted h = record { outcome = Accepted; surface = h }
 resolvedWith (Refused e) h = record { outcome = Refused e; surface = O.None }
 
 -- "It alone gets the event": the panel of the greatest
-abbrev pub winner : CompositionRegistry → GenerationalHandle → ℕ → OptionalHandle
-winner r view mask = winnerOf (bestAmong (r .views) (r .surfaces) view mask (entriesOf shortcuts (r .shortcuts)))
+abbrev pub winner : ViewTable → SurfaceTable → GenerationalHandle → ℕ → List SlotShortcut → OptionalHandle
+winner views surfaces view mask l = winnerOf (bestAmong views surfaces view mask l)
 
-unfoldable pub resolveSystemShortcut : CompositionRegistry → GenerationalHandle → ℕ → Resolved
-resolveSystemShortcut r view mask =
-    resolvedWith (ownViewRefusal (r .views .arena) (r .surfaces) mask (entriesOf shortcuts (r .shortcuts)))
-    (winner r view mask)
+-- of any registrations, for an event in a view
+unfoldable pub resolveSystemShortcut : ViewTable → SurfaceTable → GenerationalHandle → ℕ → List SlotShortcut → Resolved
+resolveSystemShortcut views surfaces view mask l =
+    resolvedWith (ownViewRefusal (views .arena) surfaces mask l) (winner views surfaces view mask l)

@@ -11,7 +11,6 @@ use crate::candidate::greater_of;
 use crate::own_view::own_view_refusal;
 use crate::scope::is_counted;
 use crate::scope::shares_bit;
-use composition_state::registry::CompositionRegistry;
 use handles::GenerationalHandle;
 use handles::OptionalHandle;
 use records::error::Outcome;
@@ -95,26 +94,18 @@ fn resolved_with(outcome: Outcome, surface: OptionalHandle) -> Resolved
     }
 }
 
-// The panel whose registration wins. Every registry is answered: the damage test and that of the view are the caller's.
+// The panel whose registration wins. Whatever the tables hold is answered: the damage test and that of the view are the
+// caller's.
 pub fn resolve_system_shortcut(
-    registry: CompositionRegistry,
+    views: ViewTable,
+    surfaces: SurfaceTable,
+    shortcuts: Shortcuts,
     view: GenerationalHandle,
     class_mask: u64,
 ) -> Resolved
-    ensures { λ r. ⌜ r ≡ resolveSystemShortcut registry view «class_mask» ⌝ }
+    ensures { λ r. ⌜ r ≡ resolveSystemShortcut views surfaces view «class_mask» (entriesOf stored shortcuts) ⌝ }
 {
-    let outcome = own_view_refusal(
-        registry.views.arena,
-        registry.surfaces,
-        registry.shortcuts,
-        class_mask,
-    );
-    let best = best_among(
-        registry.views,
-        registry.surfaces,
-        registry.shortcuts,
-        view,
-        class_mask,
-    );
+    let outcome = own_view_refusal(views.arena, surfaces, shortcuts, class_mask);
+    let best = best_among(views, surfaces, shortcuts, view, class_mask);
     resolved_with(outcome, winner_of(best))
 }

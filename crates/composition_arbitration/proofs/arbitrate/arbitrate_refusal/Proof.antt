@@ -6,9 +6,6 @@ use Rattle.composition_arbitration.proofs.arbitrate.arbitrate_refusal.T
 refuse-if-requires : tie.Need-refuse-if-requires
 refuse-if-requires c κs = search needs
 
-refusal-requires : tie.Need-refusal-requires
-refusal-requires c κs = search needs
-
 hits-refusal-requires : tie.Need-hits-refusal-requires
 hits-refusal-requires c κs = search needs
 
@@ -25,14 +22,13 @@ then-requires-4 : tie.Need-then-requires-4
 then-requires-4 c κs = search needs
 
 returns : tie.Need-returns
-returns c = rw (c .then4 .ensures, c .before .then3 .ensures, c .before .before .then2 .ensures, c .before .before .before .then .ensures, c .before .before .before .before .hits-refusal .ensures, c .before .before .before .before .before .refusal .ensures, c .before .before .before .before .before .before .refuse-if .ensures)
+returns c = rw (c .then4 .ensures, c .before .then3 .ensures, c .before .before .then2 .ensures, c .before .before .before .then .ensures, c .before .before .before .before .hits-refusal .ensures, c .before .before .before .before .before .refuse-if .ensures)
 
 pub arbitrate-refusal-spec : {M : Type 1} → statement M
 arbitrate-refusal-spec =
     tie.close
     (tie.spec
     refuse-if-requires
-    refusal-requires
     hits-refusal-requires
     then-requires
     then-requires-2

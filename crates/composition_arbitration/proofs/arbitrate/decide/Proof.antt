@@ -1,43 +1,36 @@
--- `decide` meets its contract: each callee's answer is put into the definition.
-use Rattle.composition_arbitration.specs.Decisions.{decided}
+-- `decide` meets its contract: what is gathered is what stands in the view, and each callee's answer is put into the definition.
 use borrow.Author.Needs.{needs}
+use Rattle.view_panels.proofs.PanelLaws.{standing-gathered}
+use Rattle.composition_arbitration.specs.Decisions.{decided}
 use Rattle.composition_arbitration.proofs.arbitrate.decide.Statement.{statement}
 use Rattle.composition_arbitration.proofs.arbitrate.decide.Tie as tie
 
-own-hits-requires : tie.Need-own-hits-requires
-own-hits-requires c κs = search needs
+record-requires : tie.Need-record-requires
+record-requires c κs = search needs
+
+gather-requires : tie.Need-gather-requires
+gather-requires c κs = search needs
 
 resolve-requires : tie.Need-resolve-requires
 resolve-requires c κs = search needs
 
-walk-in-requires : tie.Need-walk-in-requires
-walk-in-requires c κs = search needs
+refusal-requires : tie.Need-refusal-requires
+refusal-requires c κs = search needs
 
-or-alone-requires : tie.Need-or-alone-requires
-or-alone-requires c κs = search needs
-
-arbitrate-refusal-requires : tie.Need-arbitrate-refusal-requires
-arbitrate-refusal-requires c κs = search needs
-
-next-revision-requires : tie.Need-next-revision-requires
-next-revision-requires c κs = search needs
-
-trace-of-requires : tie.Need-trace-of-requires
-trace-of-requires c κs = search needs
+decide-with-requires : tie.Need-decide-with-requires
+decide-with-requires c κs = search needs
 
 returns : tie.Need-returns
 unfolding decided
-returns c = rw (c .trace-of .ensures, c .before .next-revision .ensures, c .before .before .arbitrate-refusal .ensures, c .before .before .before .or-alone .ensures, c .before .before .before .before .walk-in .ensures, c .before .before .before .before .before .resolve .ensures, c .before .before .before .before .before .before .own-hits .ensures)
+returns c = rw (c .decide-with .ensures, c .before .refusal .ensures, c .before .before .resolve .ensures, c .before .before .before .gather .ensures, c .before .before .before .before .before .before .«record» .ensures, standing-gathered)
 
 pub decide-spec : {M : Type 1} → statement M
 decide-spec =
     tie.close
     (tie.spec
-    own-hits-requires
+    record-requires
+    gather-requires
     resolve-requires
-    walk-in-requires
-    or-alone-requires
-    arbitrate-refusal-requires
-    next-revision-requires
-    trace-of-requires
+    refusal-requires
+    decide-with-requires
     returns)

@@ -1,5 +1,6 @@
 -- `verdict_of` meets its contract: the policy and the test of the targets are put into the definition.
 use borrow.Author.Needs.{needs}
+use Rattle.composition_arbitration.specs.Layers.{verdictOf}
 use Rattle.composition_arbitration.proofs.walk.verdict_of.Statement.{statement}
 use Rattle.composition_arbitration.proofs.walk.verdict_of.Tie as tie
 
@@ -10,6 +11,7 @@ verdict-for-requires : tie.Need-verdict-for-requires
 verdict-for-requires c κs = search needs
 
 returns : tie.Need-returns
+unfolding verdictOf
 returns c = rw (c .verdict-for .ensures, c .before .is-targeted .ensures)
 
 pub verdict-of-spec : {M : Type 1} → statement M

@@ -1,28 +1,23 @@
--- `fill` meets its contract: after each turn the numbers of the layers passed stand at the front, and the rest is as it was, for all panels whose records stand in the places.
+-- `fill` meets its contract: after each turn the numbers of the panels passed stand at the front, and the rest is as it was.
 use native.Mathlib.Omega.{arith}
 use Prim.Native.Nat.{_≤_, _<_, _-_}
-use mathlib.Core.Path.{_≡_, _∙_}
+use mathlib.Core.Path.{sym, _∙_}
 use lib.ListN.{length}
 use Rattle.lists.specs.Tables.{entriesOf}
-use Rattle.lists.proofs.TableLaws.{entry}
-use Rattle.handles.specs.Handles.{handleOf}
-use Rattle.records.specs.declared.surface.SurfaceTable.{SurfaceTable}
-use Rattle.records.specs.Layers.{layers as stateLayers, recordsOf}
-use Rattle.records.proofs.LayerLaws.{few}
-use Rattle.composition_hits.specs.HitTest.{isLayerHit, hitsAmong}
-use Rattle.composition_hits.proofs.HitLaws.{Filling, start, same-long, room-for-two, turn, end-place, end-buffer, hit-here}
+use Rattle.records.specs.Layers.{layers as stateLayers}
+use Rattle.view_panels.specs.Panels.{standing}
+use Rattle.view_panels.proofs.PanelLaws.{few, noPanel, standing-length, standing-here}
+use Rattle.composition_hits.specs.HitTest.{isPanelHit, hitsAmong}
+use Rattle.composition_hits.proofs.HitLaws.{Filling, start, same-long, room-for-two, turn, end-place, end-buffer}
 use borrow.Author.Needs.{needs}
 use Rattle.composition_hits.proofs.stack.fill.Statement.{statement}
 use Rattle.composition_hits.proofs.stack.fill.Tie as tie
 
 abbrev Inv-loop : tie.InvT-loop
-Inv-loop point buffer₀ layers found left₀ at₀ buffer left at = (left ≤ length (entriesOf stateLayers layers)) × (length (entriesOf stateLayers layers) ≤ 16) × ((surfaces : SurfaceTable) → found ≡ recordsOf (surfaces .records) layers → Filling (isLayerHit surfaces point) (entriesOf stateLayers layers) buffer₀ buffer left at)
+Inv-loop point buffer₀ layers found left₀ at₀ buffer left at = (left ≤ length (entriesOf stateLayers layers)) × (length (entriesOf stateLayers layers) ≤ 16) × Filling (isPanelHit point) (standing (record { layers = layers; records = found })) buffer₀ buffer left at
 
 abbrev μ-loop : tie.MeasureT-loop
 μ-loop point buffer₀ layers found left₀ at₀ buffer left at = left
-
-records-of-requires : tie.Need-records-of-requires Inv-loop μ-loop
-records-of-requires c κs = search needs
 
 count-requires : tie.Need-count-requires Inv-loop μ-loop
 count-requires c κs = search needs
@@ -30,8 +25,9 @@ count-requires c κs = search needs
 loop-holds : tie.Need-loop-holds Inv-loop μ-loop
 loop-holds c =
     let begun = c .before .before .before .before in
-    let whole = few (begun .args .t2) (begun .good .1 .0) in
-    (omega (arith, c .count .ensures), whole, λ surfaces e. rw (c .count .ensures) (start _ _ _ whole (begun .pre)))
+    let p = begun .args .panels in
+    let whole = few p (begun .good .0) in
+    (omega (arith, c .count .ensures), whole, rw (c .count .ensures, sym (standing-length p)) (start _ _ _ (rw (standing-length p) whole) (begun .pre)))
 
 sub-left : tie.Need-sub-left Inv-loop μ-loop
 sub-left c = search needs
@@ -52,32 +48,27 @@ is-record-hit-requires : tie.Need-is-record-hit-requires Inv-loop μ-loop
 is-record-hit-requires c κs = search needs
 
 put-if-requires : tie.Need-put-if-requires Inv-loop μ-loop
-put-if-requires c κs = room-for-two _ _ _ _ _ _ (c .before .before .before .before .before .loop .inv .2 (c .before .before .before .before .before .before .before .before .before .before .args .surfaces) (c .before .before .before .before .before .before .before .records-of .ensures)) (omega arith)
+put-if-requires c κs = room-for-two _ _ _ _ _ _ (c .before .before .before .before .before .loop .inv .2) (omega arith)
 
 loop-less : tie.Need-loop-less Inv-loop μ-loop
 loop-less c = omega arith
 
 loop-again : tie.Need-loop-again Inv-loop μ-loop
 loop-again c =
-    let a = c .before .before .before .before .before .before .before .before .before .before .before .before .before .args in
+    let p = c .before .before .before .before .before .before .before .before .before .before .before .before .before .args .panels in
     let k = c .before .before .before .before .before .before .before .before .loop in
-    let none = handleOf 0 0 in
-    let within : k .left - 1 < length (entriesOf stateLayers (a .t2)) = omega arith in
-    let here = entry stateLayers (a .t2) (k .left - 1) none within in
-    let put = c .before .before .put-if .ensures in (
-      omega arith,
-      k .inv .1,
-      λ surfaces e.
-          let hit = c .before .before .before .before .is-record-hit .ensures ∙ hit-here surfaces (a .point) (a .t2) (k .left - 1) none within (k .inv .1) _ e in
-          turn _ _ _ _ _ _ (k .inv .2 surfaces e) (omega arith) none _ _ (put .0 ∙ rw (here, hit)) (put .1 ∙ rw (here, hit)),
-    )
+    let within : k .left - 1 < length (entriesOf stateLayers (p .layers)) = omega arith in
+    let here = standing-here p (k .left - 1) within in
+    let hit = c .before .before .before .before .is-record-hit .ensures in
+    let put = c .before .before .put-if .ensures in
+    (omega arith, k .inv .1, turn _ _ _ _ _ _ (k .inv .2) (omega arith) noPanel _ _ (put .0 ∙ rw (here, hit)) (put .1 ∙ rw (here, hit)))
 
 same-length : tie.Need-same-length Inv-loop μ-loop
-same-length c = same-long _ _ _ _ _ _ (c .before .loop .inv .2 (c .before .before .before .before .before .before .args .surfaces) (c .before .before .before .records-of .ensures))
+same-length c = same-long _ _ _ _ _ _ (c .before .loop .inv .2)
 
 returns : tie.Need-returns Inv-loop μ-loop
 unfolding hitsAmong
-returns c = (end-place _ _ _ _ _ _ (c .before .loop .inv .2 (c .before .before .before .before .before .before .args .surfaces) (c .before .before .before .records-of .ensures)) (omega arith), end-buffer _ _ _ _ _ _ (c .before .loop .inv .2 (c .before .before .before .before .before .before .args .surfaces) (c .before .before .before .records-of .ensures)) (omega arith))
+returns c = let f = c .before .loop .inv .2 in (end-place _ _ _ _ _ _ f (omega arith), end-buffer _ _ _ _ _ _ f (omega arith))
 
 pub fill-spec : {M : Type 1} → statement M
 fill-spec =
@@ -85,7 +76,6 @@ fill-spec =
     (tie.spec
     Inv-loop
     μ-loop
-    records-of-requires
     count-requires
     loop-holds
     sub-left

@@ -2,6 +2,7 @@
 use mathlib.Core.Path.{sym, ap, _∙_}
 use borrow.Author.Needs.{needs}
 use Rattle.records.specs.Errors.{isAccepted}
+use Rattle.view_panels.proofs.PanelLaws.{standing-gathered}
 use Rattle.composition_hits.specs.HitTest.{viewHits, hitNumbers, hitTest, bufferAfter}
 use Rattle.composition_hits.proofs.BufferLaws.{written-none}
 use Rattle.composition_hits.proofs.TestLaws.{accepted-long, found-yes, found-no}
@@ -17,18 +18,22 @@ is-accepted-requires c κs = search needs
 layers-of-requires : tie.Need-layers-of-requires
 layers-of-requires c κs = search needs
 
+gather-requires : tie.Need-gather-requires
+gather-requires c κs = search needs
+
 fill-requires : tie.Need-fill-requires
-fill-requires c κs = accepted-long _ _ _ (sym (ap isAccepted (c .before .before .before .before .hit-test-refusal .ensures)) ∙ sym (c .before .before .before .is-accepted .ensures) ∙ c .before .before .if1 .taken)
+fill-requires c κs = accepted-long _ _ _ (sym (ap isAccepted (c .before .before .before .before .before .before .hit-test-refusal .ensures)) ∙ sym (c .before .before .before .before .before .is-accepted .ensures) ∙ c .before .before .before .before .if1 .taken)
 
 same-length : tie.Need-same-length
 same-length c = search needs
 
 returns : tie.Need-returns
 unfolding hitTest bufferAfter hitNumbers viewHits
-returns c = let t = sym (ap isAccepted (c .before .before .before .before .before .before .before .hit-test-refusal .ensures)) ∙ sym (c .before .before .before .before .before .before .is-accepted .ensures) ∙ c .before .before .before .before .before .if1 .taken in
+returns c = let t = sym (ap isAccepted (c .before .before .before .before .before .before .before .before .before .hit-test-refusal .ensures)) ∙ sym (c .before .before .before .before .before .before .before .before .is-accepted .ensures) ∙ c .before .before .before .before .before .before .before .if1 .taken in
     let f = c .before .before .fill .ensures in
-    let l = c .before .before .before .before .layers-of .ensures in
-    (rw (found-yes _ _ t, f .0, l, c .before .before .before .before .before .before .before .hit-test-refusal .ensures), rw (found-yes _ _ t) (f .1 ∙ rw l))
+    let g = c .before .before .before .before .gather .ensures in
+    let l = c .before .before .before .before .before .layers-of .ensures in
+    (rw (found-yes _ _ t, f .0, g, l, standing-gathered, c .before .before .before .before .before .before .before .before .before .hit-test-refusal .ensures), rw (found-yes _ _ t) (f .1 ∙ rw (g, l, standing-gathered)))
 
 returns-2 : tie.Need-returns-2
 unfolding hitTest bufferAfter hitNumbers
@@ -42,6 +47,7 @@ hit-test-into-spec =
     hit-test-refusal-requires
     is-accepted-requires
     layers-of-requires
+    gather-requires
     fill-requires
     same-length
     returns
