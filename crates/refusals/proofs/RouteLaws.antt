@@ -37,7 +37,7 @@ use Rattle.input_events.specs.declared.error.RouterOutcome.{RouterOutcome}
 use Rattle.input_events.specs.declared.error.RouterOutcome.the-variants.{Accepted, Refused}
 use Rattle.input_events.specs.declared.event.PlatformInputEvent.{PlatformInputEvent}
 use Rattle.input_events.specs.ArbitrationEvents.{arbitrationEvent, isDisconnect, isLoss}
-use Rattle.input_events.specs.Checks.{deviceRefusal as idRefusal, headerRefusal, eventRefusal}
+use Rattle.input_events.specs.Checks.{deviceRefusal as idRefusal, headerRefusalIn, headerRefusal, eventRefusal}
 use Rattle.input_events.specs.RouterErrors.{routerErrorNumber, thenRouterRefusal, routerRefusalIf, fromComposition}
 use Rattle.release_lists.specs.declared.releases.Releases.{Releases}
 use Rattle.input_router.specs.declared.router.PlatformInputRouter.{PlatformInputRouter}
@@ -91,7 +91,7 @@ in-order InvalidTimestamp h = accepted≢refused (sym h)
 in-order PortLimit h = accepted≢refused (sym h)
 
 passed : (c : Counter) (x : PlatformInputEvent) → routeRefusal (c .registry) (c .router) x ≡ Accepted → Passed c x
-unfolding routeRefusal eventRefusal headerRefusal
+unfolding routeRefusal eventRefusal headerRefusalIn
 passed c x h =
     let whole = rest-passed (damagedRefusal (c .registry) (c .router)) _ h in
     let event = first-passed (eventRefusal (c .registry .views) x) _ whole in
