@@ -19,8 +19,9 @@ refused-requires c κs = search needs
 
 returns : tie.Need-returns
 returns c =
-    let a = c .before .before .before .before .before .before .args in
-    let is : c .before .before .before .before .route-refusal .result ≡ checked (a .registry) (a .router) (a .event) = c .before .before .before .before .route-refusal .ensures ∙ rw (c .before .before .before .before .before .is-sound .ensures) in
+    let checks = c .before .before .before .before in
+    let a = checks .before .before .args in
+    let is : checks .route-refusal .result ≡ checked (a .registry) (a .router) (a .event) = checks .route-refusal .ensures ∙ rw (checks .before .is-sound .ensures) in
     c .refused .ensures ∙ sym (refused (a .registry) (a .router) (a .event) _ (sym is ∙ c .before .before .error .given .1))
 
 enum-told : tie.Need-enum-told
@@ -37,10 +38,12 @@ route-disconnect-requires c κs = search needs
 
 returns-2 : tie.Need-returns-2
 returns-2 c =
-    let a = c .before .before .before .before .before .before .before .before .args in
-    let is : c .before .before .before .before .before .before .route-refusal .result ≡ checked (a .registry) (a .router) (a .event) = c .before .before .before .before .before .before .route-refusal .ensures ∙ rw (c .before .before .before .before .before .before .before .is-sound .ensures) in
+    let checks = c .before .before .before .before .before .before in
+    let a = checks .before .before .args in
+    let is : checks .route-refusal .result ≡ checked (a .registry) (a .router) (a .event) = checks .route-refusal .ensures ∙ rw (checks .before .is-sound .ensures) in
     let passed = sym is ∙ c .before .before .before .before .enum-told .given .1 in
-    c .route-disconnect .ensures ∙ rw (c .before .before .before .record-event .ensures) (sym (disconnected (a .registry) (a .router) (a .event) passed (sym (c .before .before .is-disconnect .ensures) ∙ c .before .if1 .taken)))
+    let gone = sym (c .before .before .is-disconnect .ensures) ∙ c .before .if1 .taken in
+    c .route-disconnect .ensures ∙ rw (c .before .before .before .record-event .ensures) (sym (disconnected (a .registry) (a .router) (a .event) passed gone))
 
 is-loss-requires : tie.Need-is-loss-requires
 is-loss-requires c κs = search needs
@@ -50,25 +53,30 @@ route-loss-requires c κs = search needs
 
 returns-3 : tie.Need-returns-3
 returns-3 c =
-    let a = c .before .before .before .before .before .before .before .before .before .before .args in
-    let is : c .before .before .before .before .before .before .before .before .route-refusal .result ≡ checked (a .registry) (a .router) (a .event) = c .before .before .before .before .before .before .before .before .route-refusal .ensures ∙ rw (c .before .before .before .before .before .before .before .before .before .is-sound .ensures) in
+    let checks = c .before .before .before .before .before .before .before .before in
+    let a = checks .before .before .args in
+    let is : checks .route-refusal .result ≡ checked (a .registry) (a .router) (a .event) = checks .route-refusal .ensures ∙ rw (checks .before .is-sound .ensures) in
     let passed = sym is ∙ c .before .before .before .before .before .before .enum-told .given .1 in
     let kept = sym (c .before .before .before .before .is-disconnect .ensures) ∙ c .before .before .before .if1 .left in
-    c .route-loss .ensures ∙ rw (c .before .before .before .before .before .record-event .ensures) (sym (lost (a .registry) (a .router) (a .event) passed kept (sym (c .before .before .is-loss .ensures) ∙ c .before .if2 .taken)))
+    let loses = sym (c .before .before .is-loss .ensures) ∙ c .before .if2 .taken in
+    c .route-loss .ensures ∙ rw (c .before .before .before .before .before .record-event .ensures) (sym (lost (a .registry) (a .router) (a .event) passed kept loses))
 
 route-arbitrated-requires : tie.Need-route-arbitrated-requires
 route-arbitrated-requires c κs =
-    let a = c .before .before .before .before .before .before .before .before .before .args in
-    let is : c .before .before .before .before .before .before .before .route-refusal .result ≡ checked (a .registry) (a .router) (a .event) = c .before .before .before .before .before .before .before .route-refusal .ensures ∙ rw (c .before .before .before .before .before .before .before .before .is-sound .ensures) in
+    let checks = c .before .before .before .before .before .before .before in
+    let a = checks .before .before .args in
+    let is : checks .route-refusal .result ≡ checked (a .registry) (a .router) (a .event) = checks .route-refusal .ensures ∙ rw (checks .before .is-sound .ensures) in
     sound (a .registry) (a .router) (a .event) (sym is ∙ c .before .before .before .before .before .enum-told .given .1)
 
 returns-4 : tie.Need-returns-4
 returns-4 c =
-    let a = c .before .before .before .before .before .before .before .before .before .before .args in
-    let is : c .before .before .before .before .before .before .before .before .route-refusal .result ≡ checked (a .registry) (a .router) (a .event) = c .before .before .before .before .before .before .before .before .route-refusal .ensures ∙ rw (c .before .before .before .before .before .before .before .before .before .is-sound .ensures) in
+    let checks = c .before .before .before .before .before .before .before .before in
+    let a = checks .before .before .args in
+    let is : checks .route-refusal .result ≡ checked (a .registry) (a .router) (a .event) = checks .route-refusal .ensures ∙ rw (checks .before .is-sound .ensures) in
     let passed = sym is ∙ c .before .before .before .before .before .before .enum-told .given .1 in
     let kept = sym (c .before .before .before .before .is-disconnect .ensures) ∙ c .before .before .before .if1 .left in
-    c .route-arbitrated .ensures ∙ rw (c .before .before .before .before .before .record-event .ensures) (sym (goes (a .registry) (a .router) (a .event) passed kept (sym (c .before .before .is-loss .ensures) ∙ c .before .if2 .left)))
+    let stays = sym (c .before .before .is-loss .ensures) ∙ c .before .if2 .left in
+    c .route-arbitrated .ensures ∙ rw (c .before .before .before .before .before .record-event .ensures) (sym (goes (a .registry) (a .router) (a .event) passed kept stays))
 
 pub route-spec : {M : Type 1} → statement M
 route-spec =

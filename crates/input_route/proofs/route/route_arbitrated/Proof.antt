@@ -26,10 +26,12 @@ refused-requires c κs = search needs
 
 returns : tie.Need-returns
 returns c =
-    let start = c .before .before .before .before .before .before .before .before .before in
+    let decided = c .before .before .before .before .before in
+    let start = decided .before .before .before .before in
     let a = start .args in
-    let made : c .before .before .before .before .before .decide .result ≡ decision (a .registry) (a .router) (a .event) = c .before .before .before .before .before .decide .ensures ∙ rw (c .before .before .before .before .before .before .hits-for .ensures, c .before .before .before .before .before .before .before .arbitration-event .ensures, c .before .before .before .before .before .before .before .before .held-for .ensures) in
-    c .refused .ensures ∙ sym (dropped (a .registry) (a .router) (a .event) (start .pre) _ (sym (ap (λ (d : Decision). d .outcome) made) ∙ c .before .before .outcome .given .1))
+    let made : decided .decide .result ≡ decision (a .registry) (a .router) (a .event) = decided .decide .ensures ∙ rw (decided .before .hits-for .ensures, decided .before .before .arbitration-event .ensures, decided .before .before .before .held-for .ensures) in
+    let told = sym (ap (λ (d : Decision). d .outcome) made) ∙ c .before .before .outcome .given .1 in
+    c .refused .ensures ∙ sym (dropped (a .registry) (a .router) (a .event) (start .pre) _ told)
 
 enum-told : tie.Need-enum-told
 enum-told c = search needs
@@ -57,11 +59,22 @@ with-traces-at-requires c κs = search needs
 
 returns-2 : tie.Need-returns-2
 returns-2 c =
-    let start = c .before .before .before .before .before .before .before .before .before .before .before .before .before .before in
+    let decided = c .before .before .before .before .before .before .before .before .before .before in
+    let start = decided .before .before .before .before in
     let a = start .args in
-    let made : c .before .before .before .before .before .before .before .before .before .before .decide .result ≡ decision (a .registry) (a .router) (a .event) = c .before .before .before .before .before .before .before .before .before .before .decide .ensures ∙ rw (c .before .before .before .before .before .before .before .before .before .before .before .hits-for .ensures, c .before .before .before .before .before .before .before .before .before .before .before .before .arbitration-event .ensures, c .before .before .before .before .before .before .before .before .before .before .before .before .before .held-for .ensures) in
+    let made : decided .decide .result ≡ decision (a .registry) (a .router) (a .event) = decided .decide .ensures ∙ rw (decided .before .hits-for .ensures, decided .before .before .arbitration-event .ensures, decided .before .before .before .held-for .ensures) in
     let told = sym (ap (λ (d : Decision). d .outcome) made) ∙ c .before .before .before .before .before .before .before .enum-told .given .1 in
-    rw (c .with-traces-at .ensures, c .before .arbitrated-report .ensures, c .before .before .result-of .ensures, c .before .before .before .track .ensures, c .before .before .before .before .receiver .ensures, c .before .before .before .before .before .effect-of .ensures, c .before .before .before .before .before .before .push-trace .ensures, made) (sym (arbitrated (a .registry) (a .router) (a .event) (start .pre) told))
+    rw (
+      c .with-traces-at .ensures,
+      c .before .arbitrated-report .ensures,
+      c .before .before .result-of .ensures,
+      c .before .before .before .track .ensures,
+      c .before .before .before .before .receiver .ensures,
+      c .before .before .before .before .before .effect-of .ensures,
+      c .before .before .before .before .before .before .push-trace .ensures,
+      made,
+    )
+    (sym (arbitrated (a .registry) (a .router) (a .event) (start .pre) told))
 
 pub route-arbitrated-spec : {M : Type 1} → statement M
 route-arbitrated-spec =
