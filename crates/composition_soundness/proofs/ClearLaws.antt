@@ -34,7 +34,7 @@ use Rattle.records.specs.Views.{viewStatus, viewRefusal}
 use Rattle.composition_input.specs.Focus.{described, interactiveRefusal, entryRefusal}
 use Rattle.composition_shortcuts.specs.OwnView.{isRefused, refusalOf, ownViewRefusal}
 use Rattle.composition_shortcuts.specs.Resolve.{resolvedWith, winner, resolveSystemShortcut}
-use Rattle.composition_arbitration.specs.Arbitration.{resolution}
+use Rattle.composition_arbitration.specs.Arbitration.{resolutionOf, resolution}
 use Rattle.composition_soundness.proofs.CaseLaws.{either}
 
 -- an answer that is not 42
@@ -111,9 +111,9 @@ resolved Accepted h p = p
 resolved (Refused e) h p = p
 
 pub resolution-clear : (r : CompositionRegistry) (view : GenerationalHandle) (event : ArbitrationEvent) → Clear (resolution r view event .outcome)
-unfolding resolution resolveSystemShortcut ownViewRefusal
+unfolding resolutionOf resolveSystemShortcut ownViewRefusal
 resolution-clear r view (SystemShortcut mask) =
-    resolved (ownViewRefusal (r .views .arena) (r .surfaces) mask (entriesOf shortcuts (r .shortcuts))) (winner r view mask)
+    resolved (ownViewRefusal (r .views .arena) (r .surfaces) mask (entriesOf shortcuts (r .shortcuts))) (winner (r .views) (r .surfaces) view mask (entriesOf shortcuts (r .shortcuts)))
     (own-view (r .views .arena) (r .surfaces) (first (isRefused (r .views .arena) (r .surfaces) mask (entriesOf shortcuts (r .shortcuts))) (liveHandles (r .surfaces .arena))))
 resolution-clear r view (Pointer hit) = accepted
 resolution-clear r view PointerStack = accepted

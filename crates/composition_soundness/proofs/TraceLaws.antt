@@ -1,4 +1,4 @@
--- An arbitration adds one trace: its hits are counted by the check of 41, its deliveries are at most the layers walked, and the oldest trace drops out.
+-- An arbitration adds one trace: its hits are counted by the check of 41, its deliveries are at most the panels walked, and the oldest trace drops out.
 use Prim.Native.Nat.{ℕ, _+_, _-_, _≤_}
 use mathlib.Core.Path.{_≡_, refl, sym, ap, _∙_, subst}
 use mathlib.Core.Bool.{true}
@@ -26,11 +26,12 @@ use Rattle.composition_state.specs.Damage.{damageRefusal, traceSound, tracesSou
 use Rattle.records.specs.Layers.{layers}
 use Rattle.records.specs.Traces.{hits, traces, deliveries}
 use Rattle.records.specs.Views.{viewAt, viewRefusal}
+use Rattle.view_panels.specs.Panels.{Panel, panelIn, panelsIn}
 use Rattle.composition_state.proofs.SettleLaws.{then-last, if-accepted}
 use Rattle.composition_arbitration.specs.declared.walk.Verdict.{Verdict}
 use Rattle.composition_arbitration.specs.declared.walk.Walked.{Walked}
-use Rattle.composition_arbitration.specs.Arbitration.{ownHits, hitsRefusal, resolution, alone, orAlone, walkIn, arbitration, nextRevision, arbitrateRefusal, traceOf, concluded, arbitrated}
-use Rattle.composition_arbitration.specs.Layers.{delivers, consumes, verdictAt, untilConsumed, walked, deliveriesOf, walkOf}
+use Rattle.composition_arbitration.specs.Arbitration.{ownHits, hitsRefusal, resolution, alone, orAlone, walkOver, walkIn, arbitration, nextRevision, arbitrateRefusal, traceOf, concluded, arbitrated}
+use Rattle.composition_arbitration.specs.Layers.{delivers, consumes, verdictOf, untilConsumed, walked, deliveriesOf, walkOf}
 use Rattle.composition_arbitration.specs.Targets.{chosen}
 use Rattle.composition_arbitration.specs.Trace.{lastOf, keptTraces, traced}
 use Rattle.composition_soundness.proofs.CaseLaws.{then-first, status-live}
@@ -59,17 +60,17 @@ traced-sound limit t e some sound h =
     (all-append traceSound (entriesOf traces t) (e ∷ []) ∙ and-both (and-right (leb (t .len) limit) _ h) (and-both sound refl)))
 
 -- ---- the deliveries
-module _ (at : GenerationalHandle → Verdict) where
-  until-few : (l : List GenerationalHandle) → length (untilConsumed at l) ≤ length l
+module _ (at : Panel → Verdict) where
+  until-few : (l : List Panel) → length (untilConsumed at l) ≤ length l
   unfolding untilConsumed
   until-few [] = omega arith
-  until-few (h ∷ l) = by-test (consumes (at h)) (λ t. rw t (omega arith)) (λ t. rw t (omega (arith, until-few l)))
+  until-few (p ∷ l) = by-test (consumes (at p)) (λ t. rw t (omega arith)) (λ t. rw t (omega (arith, until-few l)))
 
-  walk-few : (l : List GenerationalHandle) → walkOf at l .deliveries .len ≤ length l
+  walk-few : (l : List Panel) → walkOf at l .deliveries .len ≤ length l
   unfolding walkOf
   walk-few l =
-      subst (λ (n : ℕ). n ≤ length l) (sym (len-packed deliveries (deliveriesOf at (walked at l)) ∙ length-map (keep (λ h. delivers (at h)) (walked at l)) _))
-      (omega (arith, length-keep (λ h. delivers (at h)) (walked at l), until-few (reverse l), length-reverse l))
+      subst (λ (n : ℕ). n ≤ length l) (sym (len-packed deliveries (deliveriesOf at (walked at l)) ∙ length-map (keep (λ p. delivers (at p)) (walked at l)) _))
+      (omega (arith, length-keep (λ p. delivers (at p)) (walked at l), until-few (reverse l), length-reverse l))
 
 alone-few : (h : GenerationalHandle) → alone h .deliveries .len ≤ 16
 unfolding alone
@@ -81,12 +82,13 @@ or-few None w l = l
 
 module _ (r : CompositionRegistry) (p : Parts r) (view : GenerationalHandle) (event : ArbitrationEvent) (h : Hits) where
   walk-in-few : lookupOf (r .views .arena) view ≡ Live → walkIn r view event (ownHits event h) .deliveries .len ≤ 16
-  unfolding walkIn
+  unfolding walkOver
   walk-in-few e =
       let v = viewAt (r .views) view in
       omega (
         arith,
-        walk-few (verdictAt (r .surfaces) (chosen event v) (entriesOf hits (ownHits event h))) (entriesOf layers (v .surfaces)),
+        walk-few (verdictOf (chosen event v) (entriesOf hits (ownHits event h))) (panelsIn (r .views) (r .surfaces) view),
+        length-map (entriesOf layers (v .surfaces)) (panelIn (r .surfaces)),
         entries-few layers (v .surfaces),
         view-of r p view e .layered .count,
         bounds r p .layers,

@@ -1,4 +1,4 @@
--- Who gets an event is a live panel, and who takes it gets it: the layers that are walked are live panels of the view, and a shortcut's winner stands in a filled slot.
+-- Who gets an event is a live panel, and who takes it gets it: the panels that are walked are live panels of the view, and a shortcut's winner stands in a filled slot.
 use mathlib.Core.Path.{_≡_, refl, sym, ap, _∙_}
 use mathlib.Core.Bool.{Bool, true, false, _&&_}
 use mathlib.Core.List.{List, [], _∷_, reverse, reverse-cons}
@@ -25,14 +25,16 @@ use Rattle.records.specs.declared.trace.InputDelivery.{InputDelivery}
 use Rattle.composition_state.specs.Damage.{damageRefusal}
 use Rattle.records.specs.Errors.{isAccepted}
 use Rattle.records.specs.Layers.{layers, isLive, isLayerOf}
+use Rattle.records.specs.Shortcuts.{shortcuts}
 use Rattle.records.specs.Traces.{hits as stateHits, deliveries}
 use Rattle.records.specs.Views.{viewAt, viewStatus, viewRefusal}
+use Rattle.view_panels.specs.Panels.{Panel, panelIn, panelsIn}
 use Rattle.composition_state.proofs.SettleLaws.{settled-accepted, then-last}
 use Rattle.composition_shortcuts.specs.Scope.{sharesBit, isOwned, counts}
 use Rattle.composition_shortcuts.proofs.ClaimLaws as shortcut
 use Rattle.composition_arbitration.specs.declared.walk.Verdict.{Verdict}
-use Rattle.composition_arbitration.specs.Arbitration.{ownHits, resolution, alone, orAlone, walkIn, arbitration, arbitrateRefusal, resultIf, concluded, arbitrated}
-use Rattle.composition_arbitration.specs.Layers.{delivers, consumes, verdictAt, deliveryFrom, untilConsumed, walked, deliveriesOf, walkOf}
+use Rattle.composition_arbitration.specs.Arbitration.{everyone, ownHits, resolutionOf, resolution, alone, orAlone, walkOver, walkIn, arbitration, arbitrateRefusal, resultIf, concluded, arbitrated}
+use Rattle.composition_arbitration.specs.Layers.{delivers, consumes, verdictOf, deliveryFrom, untilConsumed, walked, deliveriesOf, walkOf}
 use Rattle.composition_arbitration.specs.Targets.{chosen}
 use Rattle.composition_arbitration.proofs.CallClaimLaws as call
 use Rattle.composition_soundness.proofs.CaseLaws.{then-first, status-live}
@@ -50,7 +52,7 @@ all-reverse p [] h = refl
 all-reverse p (e ∷ l) h =
     ap (all p) (reverse-cons e l) ∙ all-append p (reverse l) (e ∷ []) ∙ and-both (all-reverse p l (and-right (p e) (all p l) h)) (and-both (and-left (p e) (all p l) h) refl)
 
-all-until : (at : GenerationalHandle → Verdict) (p : GenerationalHandle → Bool) (l : List GenerationalHandle) → all p l ≡ true → all p (untilConsumed at l) ≡ true
+all-until : (at : Panel → Verdict) (p : Panel → Bool) (l : List Panel) → all p l ≡ true → all p (untilConsumed at l) ≡ true
 unfolding untilConsumed
 all-until at p [] h = refl
 all-until at p (g ∷ l) h = and-both (and-left (p g) (all p l) h)
@@ -63,9 +65,9 @@ module _ (r : CompositionRegistry) (p : Parts r) where
 
   -- ---- the winner of a system shortcut
   winner-open : (v : GenerationalHandle) (e : ArbitrationEvent) (h : GenerationalHandle) → resolution r v e .surface ≡ Some h → isOpen r h ≡ true
-  unfolding resolution counts
+  unfolding resolutionOf counts
   winner-open v (SystemShortcut mask) h q =
-      let w = shortcut.claims .winner-wins r v mask h q in
+      let w = shortcut.claims .winner-wins (r .views) (r .surfaces) v mask (entriesOf shortcuts (r .shortcuts)) h q in
       let s = w .registration in
       let owned = and-left (isOwned (r .surfaces .arena) s) _ (and-right (sharesBit (s .registration .«class_mask») mask) _ (w .counting .counted)) in
       let used = ltb-true (s .slot) (r .surfaces .arena .used) (and-left (ltb (s .slot) (r .surfaces .arena .used)) _ owned) in
@@ -87,20 +89,26 @@ module _ (r : CompositionRegistry) (p : Parts r) where
   alone-open h o = ap (all toOpen) (entries-packed deliveries _) ∙ and-both o refl
 
   -- ---- the walk
-  walk-open : (at : GenerationalHandle → Verdict) (l : List GenerationalHandle) → all (isOpen r) l ≡ true → all toOpen (entriesOf deliveries (walkOf at l .deliveries)) ≡ true
+  -- a panel that is live
+  abbrev isOpenPanel : Panel → Bool
+  isOpenPanel s = isOpen r (s .surface)
+
+  walk-open : (at : Panel → Verdict) (l : List Panel) → all isOpenPanel l ≡ true → all toOpen (entriesOf deliveries (walkOf at l .deliveries)) ≡ true
   unfolding walkOf
   walk-open at l h =
       ap (all toOpen) (entries-packed deliveries (deliveriesOf at (walked at l)))
-      ∙ all-map (λ g. deliveryFrom (at g) g) toOpen (keep (λ g. delivers (at g)) (walked at l))
-      ∙ all-keep (isOpen r) (λ g. delivers (at g)) (walked at l) (all-until at (isOpen r) (reverse l) (all-reverse (isOpen r) l h))
+      ∙ all-map (λ (s : Panel). deliveryFrom (at s) (s .surface)) toOpen (keep (λ s. delivers (at s)) (walked at l))
+      ∙ all-keep isOpenPanel (λ s. delivers (at s)) (walked at l) (all-until at isOpenPanel (reverse l) (all-reverse isOpenPanel l h))
 
   module _ (v : GenerationalHandle) (e : ArbitrationEvent) (hits : Hits) where
-    layers-open : lookupOf (r .views .arena) v ≡ Live → all (isOpen r) (entriesOf layers (viewAt (r .views) v .surfaces)) ≡ true
-    layers-open l = all-as (isLayerOf (r .surfaces) v) (isOpen r) (λ g y. ap isLive (layer-live (r .surfaces) v g y)) (entriesOf layers (viewAt (r .views) v .surfaces)) (view-of r p v l .layered .own)
+    layers-open : lookupOf (r .views .arena) v ≡ Live → all isOpenPanel (panelsIn (r .views) (r .surfaces) v) ≡ true
+    layers-open l =
+        all-map (panelIn (r .surfaces)) isOpenPanel (entriesOf layers (viewAt (r .views) v .surfaces))
+        ∙ all-as (isLayerOf (r .surfaces) v) (isOpen r) (λ g y. ap isLive (layer-live (r .surfaces) v g y)) (entriesOf layers (viewAt (r .views) v .surfaces)) (view-of r p v l .layered .own)
 
     walk-in-open : lookupOf (r .views .arena) v ≡ Live → all toOpen (entriesOf deliveries (walkIn r v e (ownHits e hits) .deliveries)) ≡ true
-    unfolding walkIn
-    walk-in-open l = walk-open (verdictAt (r .surfaces) (chosen e (viewAt (r .views) v)) (entriesOf stateHits (ownHits e hits))) (entriesOf layers (viewAt (r .views) v .surfaces)) (layers-open l)
+    unfolding walkOver
+    walk-in-open l = walk-open (verdictOf (chosen e (viewAt (r .views) v)) (entriesOf stateHits (ownHits e hits))) (panelsIn (r .views) (r .surfaces) v) (layers-open l)
 
     all-open : lookupOf (r .views .arena) v ≡ Live → all toOpen (entriesOf deliveries (arbitration r v e hits .deliveries)) ≡ true
     all-open l = go (resolution r v e .surface) refl
@@ -128,7 +136,7 @@ module _ (r : CompositionRegistry) (p : Parts r) where
 
     pub consumed : (h : GenerationalHandle) → arbitrated r v e hits .outcome ≡ Accepted → arbitrated r v e hits .result .«consumed_by» ≡ Some h → isOpen r h ≡ true
     consumed h y q =
-        let x = call.claims .consumer-last r v e hits h (sym (told-consumer y) ∙ q) in
+        let x = call.claims .consumer-last (everyone r v) r v e hits h (sym (told-consumer y) ∙ q) in
         let d : InputDelivery = record { surface = h; observed = false } in
         let both = sym (all-append toOpen (x .front) (d ∷ [])) ∙ ap (all toOpen) (sym (x .is)) ∙ all-open (event-view y) in
         and-left (isOpen r h) true (and-right (all toOpen (x .front)) (isOpen r h && true) both)
