@@ -25,16 +25,17 @@ use Rattle.records.specs.declared.trace.Deliveries.{Deliveries}
 use Rattle.records.specs.declared.trace.Hits.{Hits}
 use Rattle.records.specs.declared.view.ViewTable.{ViewTable}
 use Rattle.records.proofs.ViewLaws.{few-slots}
+use Rattle.view_panels.specs.Panels.{Panel, panelsIn}
 use Rattle.release_lists.specs.Captures.{captureList}
 use Rattle.composition_state.specs.declared.registry.CompositionRegistry.{CompositionRegistry}
 use Rattle.composition_state.specs.Damage.{viewHandle}
 use Rattle.composition_input.specs.Captures.{isOfDevice, takenAt, deviceCaptures, deviceSettled}
 use Rattle.composition_input.specs.Captures.{releaseDevicePointerCaptures}
 use Rattle.composition_hits.specs.Buffer.{numbersOf}
-use Rattle.composition_hits.specs.HitTest.{isLayerHit, hitsAmong, viewHits, hitTestRefusal, foundNumbers, hitNumbers}
+use Rattle.composition_hits.specs.HitTest.{isPanelHit, hitsAmong, viewHits, hitTestRefusal, foundNumbers, hitNumbers}
 use Rattle.composition_arbitration.specs.declared.walk.Verdict.{Verdict}
 use Rattle.composition_arbitration.specs.declared.walk.Walked.{Walked}
-use Rattle.composition_arbitration.specs.Arbitration.{alone, orAlone, walkIn, arbitration, ownHits, resolution}
+use Rattle.composition_arbitration.specs.Arbitration.{alone, orAlone, walkOver, walkIn, arbitration, ownHits, resolution}
 use Rattle.composition_arbitration.specs.Arbitration.{resultIf, concluded, arbitrated}
 use Rattle.composition_arbitration.specs.Layers.{delivers, consumes, untilConsumed, walked, walkOf}
 use Rattle.answer_words.specs.Lengths.{All, ViewLengths}
@@ -44,17 +45,17 @@ use Rattle.answer_words.proofs.EntryLaws.{all-get, packed-few, few-if, 
 abbrev pub FewDelivered : Deliveries → Type 0
 FewDelivered t = length (entriesOf deliveries t) ≤ 16
 
-module _ (at : GenerationalHandle → Verdict) where
-  until-few : (l : List GenerationalHandle) → length (untilConsumed at l) ≤ length l
+module _ (at : Panel → Verdict) where
+  until-few : (l : List Panel) → length (untilConsumed at l) ≤ length l
   unfolding untilConsumed
   until-few [] = omega arith
-  until-few (h ∷ l) = by-test (consumes (at h)) (λ t. rw t (omega arith)) (λ t. rw t (omega (arith, until-few l)))
+  until-few (p ∷ l) = by-test (consumes (at p)) (λ t. rw t (omega arith)) (λ t. rw t (omega (arith, until-few l)))
 
-  walk-few : (l : List GenerationalHandle) → length l ≤ 16 → FewDelivered (walkOf at l .deliveries)
+  walk-few : (l : List Panel) → length l ≤ 16 → FewDelivered (walkOf at l .deliveries)
   unfolding walkOf
   walk-few l h =
       packed-few deliveries _ 16 (simp length-map
-      (omega (arith, length-keep (λ h. delivers (at h)) (walked at l), until-few (reverse l), length-reverse l)))
+      (omega (arith, length-keep (λ p. delivers (at p)) (walked at l), until-few (reverse l), length-reverse l)))
 
 alone-few : (h : GenerationalHandle) → FewDelivered (alone h .deliveries)
 unfolding alone
@@ -103,11 +104,14 @@ module _ (r : CompositionRegistry) (x : All ViewLengths (r .views .records)) whe
       packed-few captureList _ 512
       (few-if (isAccepted (settled .outcome)) _ 512 (device-few (r .views) x device generation))
 
+  panels-few : (view : GenerationalHandle) → length (panelsIn (r .views) (r .surfaces) view) ≤ 16
+  panels-few view = simp length-map (layers-few (r .views) x view)
+
   -- ---- an arbitration
   walk-in-few : (view : GenerationalHandle) (event : ArbitrationEvent) (h : Hits)
       → FewDelivered (walkIn r view event h .deliveries)
-  unfolding walkIn
-  walk-in-few view event h = walk-few _ _ (layers-few (r .views) x view)
+  unfolding walkOver
+  walk-in-few view event h = walk-few _ _ (panels-few view)
 
   pub arbitrated-few : (view : GenerationalHandle) (event : ArbitrationEvent) (h : Hits)
       → FewDelivered (arbitrated r view event h .result .deliveries)
@@ -130,6 +134,6 @@ module _ (r : CompositionRegistry) (x : All ViewLengths (r .views .records)) whe
   pub hits-few : (view : GenerationalHandle) (p : Point) (n : ℕ) → length (hitNumbers r view p n) ≤ 32
   unfolding hitNumbers viewHits hitsAmong
   hits-few view p n =
-      let l = entriesOf layers (viewAt (r .views) view .surfaces) in
-      let hit = length-keep (isLayerHit (r .surfaces) p) (reverse l) in
-      found-few (hitTestRefusal r view n) _ (omega (arith, hit, length-reverse l, layers-few (r .views) x view))
+      let l = panelsIn (r .views) (r .surfaces) view in
+      let hit = length-keep (isPanelHit p) (reverse l) in
+      found-few (hitTestRefusal r view n) _ (simp length-map (omega (arith, hit, length-reverse l, panels-few view)))

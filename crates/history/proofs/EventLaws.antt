@@ -91,7 +91,7 @@ module _ (l : Lists) (r : CompositionRegistry) (t : PlatformInputRouter) (b : Bo
         (tracked-joined after t b s (follow (at r t) b b after j f (same-quiet b (j .shared .captures-rise))) (effectOf e) to room (λ h k. f .keeps .stays h (live-receiver q h k) .0)))
     arbitrated-after (composition.Refused x) q a =
         route-refused l b e (error.Composition x) (answer .registry) t
-        (subst (λ (after : CompositionRegistry). Joined none (at after t) b) (sym (arbitration.claims .refused r (e .header .view) (arbitrationEvent e (heldFor t e)) (hitsFor r e) x q)) j) a
+        (subst (λ (after : CompositionRegistry). Joined none (at after t) b) (sym (arbitration.refused r (e .header .view) (arbitrationEvent e (heldFor t e)) (hitsFor r e) x q)) j) a
 
     arbitration-goes : RouteGoes l b e (routedArbitration r t e)
     unfolding routedArbitration

@@ -168,7 +168,7 @@ module _ (c : Counter) (b : Book) (u : Undamaged (c .registry)) (j : Joined none
   arbitrate-goes d a =
       let x = arbitrated (c .registry) (d .view) (d .event) (l .hits) in
       registry-right c b j (entry c (Arbitrate d) l) a (x .registry) (entries-packed releases []) (x .outcome) refl refl
-      (λ e q n m. arbitration.claims .refused (c .registry) (d .view) (d .event) (l .hits) e q)
+      (λ e q n m. arbitration.refused (c .registry) (d .view) (d .event) (l .hits) e q)
       (λ q. follow c b b (x .registry) j (registry.claims .arbitrate (c .registry) b (d .view) (d .event) (l .hits) u (j .shared .agrees) q) (same-quiet b (j .shared .captures-rise)))
 
   -- the panel that closes may still have presses in the router

@@ -101,7 +101,7 @@ kept c (Shortcut x) l e q =
     changed-kept c (s .registry) (shortcutChange (c .registry) x (l .registrations)) true (s .outcome) (shortcut-late (c .registry) x (l .registrations)) e q
 kept c (Arbitrate a) l e q =
     let s = arbitrated (c .registry) (a .view) (a .event) (l .hits) in
-    unwritten c (arbitrationAlone (s .result)) (s .registry) (s .outcome) (arbitrations.claims .refused (c .registry) (a .view) (a .event) (l .hits))
+    unwritten c (arbitrationAlone (s .result)) (s .registry) (s .outcome) (arbitrations.refused (c .registry) (a .view) (a .event) (l .hits))
     (blank-arbitration (c .registry) (a .view) (a .event) (l .hits)) e q
 kept c (Close (close.CloseSurface h)) l e q =
     let s = closeSurface (c .registry) h in

@@ -242,7 +242,7 @@ module _ (c : Counter) (x : PlatformInputEvent) where
   ordered p =
       let event = arbitrationEvent x (heldFor recordedRouter x) in
       let a = arbitrated (c .registry) (x .header .view) event (hitsFor (c .registry) x) in
-      after-arbitration a (a .outcome) (arbitration-late (c .registry) (p .whole) x (p .live) event) (arbitrations.claims .refused (c .registry) (x .header .view) event (hitsFor (c .registry) x))
+      after-arbitration a (a .outcome) (arbitration-late (c .registry) (p .whole) x (p .live) event) (arbitrations.refused (c .registry) (x .header .view) event (hitsFor (c .registry) x))
 
   -- ---- by payload, and by the checks
   worked : Passed c x → KeptBy (workWritten c x) (routedPayload (c .registry) recordedRouter x)

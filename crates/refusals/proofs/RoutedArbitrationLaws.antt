@@ -7,8 +7,8 @@ use mathlib.Core.Option.{Option, none, some}
 use native.Mathlib.Omega.{arith}
 use borrow.Author.Tests.{le-ltb}
 use lib.Dec.{eqb, leb, ltb}
-use lib.ListN.{length, length-reverse}
-use Rattle.lists.specs.Lists.{first}
+use lib.ListN.{length, length-map, length-reverse}
+use Rattle.lists.specs.Lists.{keep, first}
 use Rattle.lists.specs.Tables.{entriesOf, packed}
 use Rattle.lists.specs.Numbers.{maxU64}
 use Rattle.lists.proofs.BelowLaws.{all-at}
@@ -37,10 +37,11 @@ use Rattle.records.specs.Shortcuts.{shortcuts}
 use Rattle.records.specs.Surfaces.{descriptorOf}
 use Rattle.records.specs.Traces.{hits}
 use Rattle.records.specs.Views.{viewAt, viewStatus}
+use Rattle.view_panels.specs.Panels.{Panel, panelIn, panelsIn}
 use Rattle.composition_shortcuts.specs.OwnView.{isRefused, refusalOf, ownViewRefusal}
 use Rattle.composition_shortcuts.specs.Resolve.{resolvedWith, winner, resolveSystemShortcut}
-use Rattle.composition_hits.specs.HitTest.{isLayerHit, hitsAmong, viewHits}
-use Rattle.composition_arbitration.specs.Arbitration.{isStack, ownHits, hitsRefusal, resolution, arbitration, arbitrateRefusal, nextRevision, traceOf, withTrace, concluded, arbitrated}
+use Rattle.composition_hits.specs.HitTest.{isPanelHit, hitsAmong, viewHits}
+use Rattle.composition_arbitration.specs.Arbitration.{isStack, ownHits, hitsRefusal, resolutionOf, resolution, arbitration, arbitrateRefusal, nextRevision, traceOf, withTrace, concluded, arbitrated}
 use Rattle.composition_soundness.proofs.CaseLaws.{either}
 use Rattle.composition_soundness.proofs.ChangeLaws.{view-parts}
 use Rattle.composition_soundness.proofs.ListLaws.{entries-few}
@@ -64,9 +65,9 @@ resolved Accepted h p = p
 resolved (Refused e) h p = p
 
 resolution-late : (r : CompositionRegistry) (view : GenerationalHandle) (event : ArbitrationEvent) → Within isLate (resolution r view event .outcome)
-unfolding resolution resolveSystemShortcut ownViewRefusal
+unfolding resolutionOf resolveSystemShortcut ownViewRefusal
 resolution-late r view (SystemShortcut mask) =
-    resolved (ownViewRefusal (r .views .arena) (r .surfaces) mask (entriesOf shortcuts (r .shortcuts))) (winner r view mask)
+    resolved (ownViewRefusal (r .views .arena) (r .surfaces) mask (entriesOf shortcuts (r .shortcuts))) (winner (r .views) (r .surfaces) view mask (entriesOf shortcuts (r .shortcuts)))
     (own-view (r .views .arena) (r .surfaces) (first (isRefused (r .views .arena) (r .surfaces) mask (entriesOf shortcuts (r .shortcuts))) (liveHandles (r .surfaces .arena))))
 resolution-late r view (Pointer hit) = accepted isLate
 resolution-late r view PointerStack = accepted isLate
@@ -109,8 +110,10 @@ module _ (r : CompositionRegistry) (whole : isSound r ≡ true) (x : PlatformInp
   hits-few : (p : Point) → length (viewHits r view p) ≤ 16
   unfolding viewHits hitsAmong
   hits-few p =
-      let l = entriesOf layers (viewAt (r .views) view .surfaces) in
-      omega (arith, length-keep (isLayerHit (r .surfaces) p) (reverse l), length-reverse l, entries-few layers (viewAt (r .views) view .surfaces), layers-few)
+      let l = panelsIn (r .views) (r .surfaces) view in
+      let own = viewAt (r .views) view .surfaces in
+      let hit = keep (isPanelHit p) (reverse l) in
+      omega (arith, length-map hit (λ (s : Panel). s .surface), length-keep (isPanelHit p) (reverse l), length-reverse l, length-map (entriesOf layers own) (panelIn (r .surfaces)), entries-few layers own, layers-few)
 
   own-few : (event : ArbitrationEvent) → ltb 16 (ownHits event (hitsFor r x) .len) ≡ false
   unfolding ownHits hitsFor
