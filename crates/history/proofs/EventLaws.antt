@@ -119,7 +119,7 @@ module _ (l : Lists) (r : CompositionRegistry) (t : PlatformInputRouter) (b : Bo
 
 -- what is recorded of an event changes no press
 recorded-presses : (t : PlatformInputRouter) (e : PlatformInputEvent) → pressesOf (recordedEvent t e) ≡ pressesOf t
-recorded-presses t e = by-test (hasPlace t (e .header .device) (e .header .sequence)) (λ k. rw k) (λ k. rw k)
+recorded-presses t e = by-test (hasPlace t (e .header .device)) (λ k. rw k) (λ k. rw k)
 
 recorded-joined : (r : CompositionRegistry) (t : PlatformInputRouter) (e : PlatformInputEvent) (b : Book) → Joined none (at r t) b → Joined none (at r (recordedEvent t e)) b
 recorded-joined r t e b j = record { shared = j .shared; own = record { presses = recorded-presses t e ∙ j .own .presses; hosted = j .own .hosted } }

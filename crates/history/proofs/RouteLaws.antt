@@ -27,7 +27,7 @@ use Rattle.composition_soundness.proofs.CaseLaws.{status-live, refused≢accept
 use Rattle.input_events.specs.declared.error.PlatformInputError.{PlatformInputError}
 use Rattle.input_events.specs.declared.error.RouterOutcome.the-variants.{Accepted}
 use Rattle.input_events.specs.declared.event.PlatformInputEvent.{PlatformInputEvent}
-use Rattle.input_events.specs.Checks.{deviceRefusal as deviceCheck, headerRefusal, payloadRefusal, eventRefusal}
+use Rattle.input_events.specs.Checks.{deviceRefusal as deviceCheck, headerRefusalIn, headerRefusal, payloadRefusal, eventRefusal}
 use Rattle.input_events.specs.RouterErrors.{fromComposition}
 use Rattle.input_router.specs.declared.router.PlatformInputRouter.{PlatformInputRouter}
 use Rattle.release_lists.specs.Releases.{releases}
@@ -73,7 +73,7 @@ module _ (r : CompositionRegistry) (e : PlatformInputEvent) (h : eventRefusal (r
   device-seen = not-false (deviceValid (e .header .device)) (if-accepted (not (deviceValid (e .header .device))) _ (then-first (deviceCheck (e .header .device)) _ h))
 
   pub view-seen : viewStatus (r .views) (e .header .view) ≡ Live
-  unfolding eventRefusal headerRefusal
+  unfolding eventRefusal headerRefusalIn
   view-seen =
       let header = then-first (headerRefusal (r .views) (e .header)) (payloadRefusal (e .payload)) (then-last (deviceCheck (e .header .device)) _ h) in
       status-live (viewStatus (r .views) (e .header .view)) _ _ (from-accepted (viewRefusal (r .views) (e .header .view)) (then-first (fromComposition (viewRefusal (r .views) (e .header .view))) _ header))

@@ -125,7 +125,7 @@ arbitrated-safe a t e (composition.Refused x) u s room = record { registry = u; 
 
 -- what is recorded of an event leaves the room for its press
 pub recorded-room : (t : PlatformInputRouter) (e : PlatformInputEvent) (f : Effect) → effectRefusal (recordedEvent t e) f ≡ effectRefusal t f
-recorded-room t e (Opens key) = by-test (hasPlace t (e .header .device) (e .header .sequence)) (λ b. rw b) (λ b. rw b)
+recorded-room t e (Opens key) = by-test (hasPlace t (e .header .device)) (λ b. rw b) (λ b. rw b)
 recorded-room t e (Ends key) = refl
 recorded-room t e Nothing = refl
 
