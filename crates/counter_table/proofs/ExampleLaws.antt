@@ -17,14 +17,14 @@ use Rattle.composition_input.specs.Captures.{capturePointerFor}
 use Rattle.composition_input.specs.Focus.{setFocus}
 use Rattle.composition_shortcuts.specs.Claims.{Observing}
 use Rattle.composition_shortcuts.specs.OwnView.{ownViewRefusal}
-use Rattle.composition_arbitration.specs.Arbitration.{ownHits, resolution, alone, walkIn, concluded, arbitrated}
-use Rattle.composition_arbitration.specs.Decisions.{decided}
-use Rattle.composition_arbitration.specs.Layers.{verdictAt, untilConsumed, consumerOf, walkOf}
+use Rattle.composition_arbitration.specs.Arbitration.{ownHits, resolutionOf, alone, walkOver, concluded, arbitrated}
+use Rattle.composition_arbitration.specs.Decisions.{decidedWith, decided}
+use Rattle.composition_arbitration.specs.Layers.{verdictOf, untilConsumed, consumerOf, walkOf}
 use Rattle.composition_arbitration.specs.Targets.{chosen, isTargeted}
 use Rattle.composition_arbitration.specs.Trace.{traced}
 use Rattle.composition_close.specs.Close.{detached, freed, closeSettled, closeSurface}
 use Rattle.composition_close.specs.Detach.{hadCapture, topmost, detachedView}
-use Rattle.composition_hits.specs.HitTest.{isLayerHit, hitsAmong, viewHits}
+use Rattle.composition_hits.specs.HitTest.{hitsAmong, viewHits}
 use Rattle.composition_soundness.specs.Claims.{Undamaged}
 use Rattle.input_events.specs.ArbitrationEvents.{arbitrationEventIn, needsHits, pointOf, isLoss, isDisconnect}
 use Rattle.input_events.specs.Checks.{payloadRefusal, headerRefusal, eventRefusal}
@@ -54,7 +54,7 @@ holding = record {
 }
 
 pub examples : CounterExamples
-unfolding allBelow countBelow iterBelow entriesOf packed pushed emptyArena lookupOf hasRoom allocated released countsWithin occurrencesOf wellFormed isHit isValidGeometry solved layerLt recordsOf arenasSound tracesSound layersSound viewSound viewsSound isSound advanced freshRegistry attached attachSurface createWindow createView capturePointerFor setFocus ownViewRefusal ownHits resolution alone walkIn concluded arbitrated decided verdictAt untilConsumed consumerOf walkOf chosen isTargeted traced detached freed closeSettled closeSurface hadCapture topmost detachedView isLayerHit hitsAmong viewHits arbitrationEventIn needsHits pointOf isLoss isDisconnect payloadRefusal headerRefusal eventRefusal pressIn effectIn receiverOf isRouterSound routeRefusal hitsFor routedArbitration routedPayload routed lib.Ieee.lt lib.Ieee.sub lib.Ieee.mul lib.Ieee.div lib.Ieee.ofInt
+unfolding allBelow countBelow iterBelow entriesOf packed pushed emptyArena lookupOf hasRoom allocated released countsWithin occurrencesOf wellFormed isHit isValidGeometry solved layerLt recordsOf arenasSound tracesSound layersSound viewSound viewsSound isSound advanced freshRegistry attached attachSurface createWindow createView capturePointerFor setFocus ownViewRefusal ownHits resolutionOf alone walkOver concluded arbitrated decidedWith decided verdictOf untilConsumed consumerOf walkOf chosen isTargeted traced detached freed closeSettled closeSurface hadCapture topmost detachedView hitsAmong viewHits arbitrationEventIn needsHits pointOf isLoss isDisconnect payloadRefusal headerRefusal eventRefusal pressIn effectIn receiverOf isRouterSound routeRefusal hitsFor routedArbitration routedPayload routed lib.Ieee.lt lib.Ieee.sub lib.Ieee.mul lib.Ieee.div lib.Ieee.ofInt
 examples = record {
   observing = watching;
   observe-many = table .observe-panel watched panelA watching .0 sixtyFive refl;
