@@ -3,7 +3,7 @@
 use Prim.Native.Nat.{ℕ}
 use mathlib.Core.Path.{_≡_, refl, ap}
 use mathlib.Core.Bool.{Bool, true, false, not, _&&_}
-use lib.Dec.{eqb, ltb}
+use lib.Dec.{eqb, ltb, leb}
 use Rattle.lists.proofs.ListLaws.{clash}
 use Rattle.handles.specs.Handles.{sameHandle}
 use Rattle.handles.specs.declared.GenerationalHandle.{GenerationalHandle}
@@ -81,7 +81,7 @@ payload-clear (payload.Wheel w) = if-clear (eqb (w .contact) 4294967295) error.I
 payload-clear (payload.Key k) = accepted
 payload-clear (payload.Shortcut s) = if-clear (eqb (s .«class_mask») 0) error.InvalidShortcut refl
 payload-clear (payload.Text t) = accepted
-payload-clear (payload.Composition c) = if-clear _ error.InvalidTextSelection refl
+payload-clear (payload.Composition c) = if-clear (not (leb (c .«selection_start») (c .«selection_end») && leb (c .«selection_end») (c .length))) error.InvalidTextSelection refl
 payload-clear (payload.GamepadSnapshot g) = accepted
 payload-clear (payload.FocusChanged focused) = accepted
 payload-clear (payload.VisibilityChanged visible) = accepted
@@ -105,7 +105,7 @@ event-clear r e =
     let own = viewAt (r .views) (h .view) in
     then-clear (if-clear (not (deviceValid (h .device))) error.InvalidDevice refl)
     (then-clear
-    (then-clear (from-clear (viewRefusal (r .views) (h .view)) (number-clear _ (registry.view-at r (h .view))))
+    (then-clear (from-clear (viewRefusal (r .views) (h .view)) (number-clear (viewRefusal (r .views) (h .view)) (registry.view-at r (h .view))))
     (then-clear (if-clear (not (sameHandle (own .window) (h .window))) error.InvalidWindow refl)
     (if-clear (not (eqb (own .metrics .revision) (h .«metrics_revision»))) (error.Composition composition.RevisionConflict) refl)))
     (payload-clear (e .payload)))
@@ -136,4 +136,4 @@ module _ (r : CompositionRegistry) (t : PlatformInputRouter) (s : isSound r ≡ 
   read-answer (read.InversePoint a) = registry.accepted
 
   pub read-clear : (call : ReadCall) → numberOf (readStep r t call .outcome) ≡ 42 → ⊥
-  read-clear call = number-clear _ (read-answer call)
+  read-clear call = number-clear (readStep r t call .outcome) (read-answer call)

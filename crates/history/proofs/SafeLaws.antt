@@ -212,7 +212,7 @@ router-safe c v (route.ReleaseSurface h) = released-safe c v (releaseSurface (c 
 router-safe c v route.ReleaseAll = released-safe c v (releaseAll (c .router)) (router.claims .all-sound (c .router) (v .router)) (rw (v .router))
 
 read-safe : (c : Counter) → Safe c → (call : ReadCall) → SafeStep (fromRead c (readStep (c .registry) (c .router) call))
-read-safe c v call = record { safe = v; clear = from-clear _ (read-clear (c .registry) (c .router) (v .registry .sound) (v .router) call) }
+read-safe c v call = record { safe = v; clear = from-clear (readStep (c .registry) (c .router) call .outcome) (read-clear (c .registry) (c .router) (v .registry .sound) (v .router) call) }
 
 pub step-safe : (c : Counter) → Safe c → (call : Call) (l : Lists) → SafeStep (stepped c call l)
 unfolding stepped

@@ -54,7 +54,9 @@ same-length-4 c = search needs
 
 returns-4 : tie.Need-returns-4
 unfolding moreOf
-returns-4 c = ?
+returns-4 c =
+    let a = c .before .before .before .before .before .before .before .before .args in
+    rw (sym (c .before .before .before .before .before .before .is-accepted .ensures), c .before .before .before .before .before .if1 .taken, own-shown (a .call) (a .answer) (a .counter) (c .before .before .before .before .match .keys3)) (c .before .before .put-shown .ensures)
 
 pub put-more-spec : {M : Type 1} → statement M
 put-more-spec =
