@@ -16,8 +16,8 @@ use Rattle.input_events.specs.declared.error.RouterOutcome.{RouterOutcome}
 use Rattle.input_events.specs.declared.error.RouterOutcome.the-variants.{Accepted, Refused}
 use Rattle.input_releases.specs.declared.answer.RouteKind.{RouteKind}
 use Rattle.input_releases.specs.declared.answer.RouteKind.the-variants as kind
-use Rattle.read_step.specs.declared.answer.Shown.{Shown}
-use Rattle.read_step.specs.declared.answer.Shown.the-variants as shown
+use Rattle.calls.specs.declared.shown.Shown.{Shown}
+use Rattle.calls.specs.declared.shown.Shown.the-variants as shown
 use Rattle.counter.specs.declared.answer.Answer.{Answer}
 use Rattle.answer_columns.specs.Pieces.{spacePieces, optionalPieces}
 
@@ -61,7 +61,7 @@ shownHandle (shown.Layers v) = None
 shownHandle shown.Traces = None
 shownHandle (shown.Counts c) = None
 shownHandle (shown.BindingCount n) = None
-shownHandle shown.Hits = None
+shownHandle (shown.Hits a) = None
 shownHandle (shown.Local p) = None
 
 -- a create or an attach names what it made
@@ -82,7 +82,7 @@ namedHandle (Refused e) c made k s = None
 
 -- the handle of an answer
 abbrev pub handleFor : Call → Answer → OptionalHandle
-handleFor c a = namedHandle (a .outcome) c (a .made .handle) (a .report .kind) (a .read .shown)
+handleFor c a = namedHandle (a .outcome) c (a .handle) (a .report .kind) (a .shown)
 
 -- column 7, with the spaces around it
 abbrev pub namedPieces : OptionalHandle → List (List ℕ)

@@ -10,11 +10,11 @@ use calls::call::Call;
 use calls::call::CloseCall;
 use calls::call::InputCall;
 use calls::call::RouterCall;
+use calls::shown::Shown;
 use handles::GenerationalHandle;
 use handles::OptionalHandle;
 use input_events::error::RouterOutcome;
 use input_releases::answer::RouteKind;
-use read_step::answer::Shown;
 
 // A suspend names its view.
 fn input_handle(call: InputCall) -> OptionalHandle
@@ -85,7 +85,7 @@ fn shown_handle(shown: Shown) -> OptionalHandle
         Shown::Traces => OptionalHandle::None,
         Shown::Counts(_) => OptionalHandle::None,
         Shown::BindingCount(_) => OptionalHandle::None,
-        Shown::Hits => OptionalHandle::None,
+        Shown::Hits(_) => OptionalHandle::None,
         Shown::Local(_) => OptionalHandle::None,
     }
 }

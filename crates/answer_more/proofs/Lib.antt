@@ -1,2 +1,3 @@
 pub mod ReportListLaws
 pub mod PlaceLaws
+pub mod ShownLaws

@@ -1,4 +1,4 @@
--- The stored tables of releases, reports and hit numbers have 3, 256 and 32 places: read off what their types own.
+-- The stored tables of releases and reports have 3 and 256 places: read off what their types own.
 use Prim.Native.Nat.{_≤_}
 use mathlib.Core.Path.{_≡_, sym, _∙_}
 use mathlib.Core.List.{List}
@@ -15,10 +15,6 @@ use Rattle.composition_close.proofs.answer.CloseReports as C
 use Rattle.composition_close.proofs.answer.CloseReports.Laws as C′
 use Rattle.composition_close.proofs.answer.SurfaceReleases as S
 use Rattle.composition_close.proofs.answer.SurfaceReleases.Laws as S′
-use Rattle.read_step.specs.Reads.{hitTable}
-use Rattle.read_step.specs.declared.hits.HitNumbers.{HitNumbers}
-use Rattle.read_step.proofs.hits.HitNumbers as H
-use Rattle.read_step.proofs.hits.HitNumbers.Laws as H′
 
 pub releases-long : (t : SurfaceReleases) {vs : List Val} → Is S.the-row t vs → length (t .items) ≡ 3
 releases-long t {vs} p = sym (length-map (t .items) _) ∙ LL.owed S.the-type S′.the-laws t vs p .0 .1 .0 .1
@@ -31,9 +27,3 @@ reports-long t {vs} p = sym (length-map (t .items) _) ∙ LL.owed C.the-type C�
 
 pub reports-few : (t : CloseReports) {vs : List Val} → Is C.the-row t vs → length (entriesOf closeReports t) ≤ 256
 reports-few t p = table.few closeReports t (reports-long t p)
-
-pub hits-long : (t : HitNumbers) {vs : List Val} → Is H.the-row t vs → length (t .items) ≡ 32
-hits-long t {vs} p = sym (length-map (t .items) _) ∙ LL.owed H.the-type H′.the-laws t vs p .0 .1 .0 .1
-
-pub hits-few : (t : HitNumbers) {vs : List Val} → Is H.the-row t vs → length (entriesOf hitTable t) ≤ 32
-hits-few t p = table.few hitTable t (hits-long t p)

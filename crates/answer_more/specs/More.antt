@@ -8,27 +8,15 @@ use Rattle.calls.specs.declared.call.RouterCall.{RouterCall}
 use Rattle.calls.specs.declared.call.RouterCall.the-variants as router
 use Rattle.composition_input.specs.declared.answer.OptionalInputState.{OptionalInputState}
 use Rattle.composition_input.specs.declared.answer.OptionalInputState.the-variants as state
-use Rattle.composition_panels.specs.declared.answer.OptionalMetrics.{OptionalMetrics}
-use Rattle.composition_panels.specs.declared.answer.OptionalMetrics.the-variants as metrics
 use Rattle.input_events.specs.RouterErrors.{isRouterAccepted}
 use Rattle.input_releases.specs.declared.answer.RouteKind.{RouteKind}
 use Rattle.input_releases.specs.declared.answer.RouteKind.the-variants as kind
 use Rattle.counter.specs.declared.answer.Answer.{Answer}
 use Rattle.counter.specs.declared.step.Counter.{Counter}
-use Rattle.answer_numbers.specs.Groups.{metricsNumbers, inputStateNumbers}
+use Rattle.answer_numbers.specs.Groups.{inputStateNumbers}
 use Rattle.answer_numbers.specs.Numbers.{Number, plain}
 use Rattle.answer_more.specs.Closing.{closingNumbers}
 use Rattle.answer_more.specs.Shown.{shownMore}
-
--- the metrics that an update made: M
-abbrev pub metricsMore : OptionalMetrics → Option (List Number)
-metricsMore metrics.None = none
-metricsMore (metrics.Some m) = some (metricsNumbers m)
-
--- what a suspend let go: I
-abbrev pub stateMore : OptionalInputState → Option (List Number)
-stateMore state.None = none
-stateMore (state.Some s) = some (inputStateNumbers s)
 
 -- a view's loss: 2, I
 abbrev pub lossNumbers : OptionalInputState → List Number
@@ -48,16 +36,17 @@ routerMore (router.Route e) k s = eventMore k s
 routerMore (router.ReleaseSurface h) k s = none
 routerMore router.ReleaseAll k s = none
 
--- what an accepted call shows
+-- what an accepted call shows: a close its report, a routed event what became of it, every other call what its answer
+-- has to show
 abbrev pub acceptedMore : Call → Answer → Counter → Option (List Number)
-acceptedMore (call.Panel c) a k = metricsMore (a .made .metrics)
-acceptedMore (call.Input c) a k = stateMore (a .made .«input_state»)
-acceptedMore (call.ReleaseDevice c) a k = none
-acceptedMore (call.Shortcut c) a k = none
-acceptedMore (call.Arbitrate c) a k = none
+acceptedMore (call.Panel c) a k = shownMore (a .shown) (k .registry)
+acceptedMore (call.Input c) a k = shownMore (a .shown) (k .registry)
+acceptedMore (call.ReleaseDevice c) a k = shownMore (a .shown) (k .registry)
+acceptedMore (call.Shortcut c) a k = shownMore (a .shown) (k .registry)
+acceptedMore (call.Arbitrate c) a k = shownMore (a .shown) (k .registry)
 acceptedMore (call.Close c) a k = some (closingNumbers c (a .listed .closed) (a .listed .shutdown))
 acceptedMore (call.Router c) a k = routerMore c (a .report .kind) (a .report .«view_release»)
-acceptedMore (call.Read c) a k = shownMore (a .read .shown) (a .read .hits) (k .registry)
+acceptedMore (call.Read c) a k = shownMore (a .shown) (k .registry)
 
 -- a refused call shows nothing
 unfoldable pub moreOf : Call → Answer → Counter → Option (List Number)

@@ -2,9 +2,6 @@
 ghost use Prim.Native.Nat.{ℕ};
 ghost use mathlib.Core.List.{List};
 ghost use mathlib.Core.Path.{_≡_};
-ghost use lib.ListN.{length};
-ghost use Rattle.lists.specs.Tables.{entriesOf};
-ghost use Rattle.read_step.specs.Reads.{hitTable};
 ghost use Rattle.answer_numbers.specs.declared.sink.Sink.{Sink};
 ghost use Rattle.answer_numbers.specs.Numbers.{numbersTaken};
 ghost use Rattle.answer_more.specs.Shown.{shownHits, shownCounts, pointNumbers, localNumbers};
@@ -13,35 +10,26 @@ use answer_numbers::sink::Sink;
 use answer_numbers::sink::take_count;
 use answer_numbers::sink::take_plain;
 use answer_numbers::sink::take_signed;
+use calls::arguments::HitTestArguments;
+use calls::shown::Counts;
+use composition_hits::table::view_hits;
+use composition_state::registry::CompositionRegistry;
 use geometry::transform::LocalPoint;
 use geometry::transform::Point;
-use read_step::answer::Counts;
-use read_step::hits::HitNumbers;
+use registry_dump::traces::take_hits;
 
-// A stored count past its table is read as a full table.
-fn count_numbers(hits: HitNumbers) -> usize
-    ensures { λ r. ⌜ r ≡ length (entriesOf hitTable hits) ⌝ }
-{
-    let n = hits.len;
-    if n < 32 {
-        return n;
-    }
-    32
-}
-
-// How many hits there are, and the two numbers of each.
-pub fn take_hit_numbers(out: &mut [u8], sink: Sink, hits: HitNumbers) -> Sink
+// The hits of a view at a point: how many, and each, topmost first.
+pub fn take_hits_at(
+    out: &mut [u8],
+    sink: Sink,
+    registry: CompositionRegistry,
+    given: HitTestArguments,
+) -> Sink
     ensures { λ r. ⌜ _≡_ {A = List ℕ × Sink} (now (out .exit), r)
-        (numbersTaken (shownHits hits) (now (out .entry), sink)) ⌝ }
+        (numbersTaken (shownHits registry given) (now (out .entry), sink)) ⌝ }
 {
-    let n = count_numbers(hits);
-    let mut next = take_count(out, sink, n / 2);
-    let mut i = 0;
-    while i < n {
-        next = take_plain(out, next, hits.items[i]);
-        i += 1;
-    }
-    next
+    let hits = view_hits(registry, given.view, given.point);
+    take_hits(out, sink, hits)
 }
 
 pub fn take_shown_counts(out: &mut [u8], sink: Sink, counts: Counts) -> Sink

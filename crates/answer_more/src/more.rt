@@ -4,13 +4,12 @@ ghost use mathlib.Core.List.{List};
 ghost use mathlib.Core.Path.{_≡_};
 ghost use Rattle.answer_numbers.specs.declared.sink.Sink.{Sink};
 ghost use Rattle.answer_numbers.specs.Numbers.{numbersTaken};
-ghost use Rattle.answer_more.specs.More.{metricsMore, stateMore, lossNumbers, eventMore, routerMore, moreOf};
+ghost use Rattle.answer_more.specs.More.{lossNumbers, eventMore, routerMore, moreOf};
 ghost use Rattle.answer_more.specs.Place.{morePlaced};
 use crate::closing::put_closing;
 use crate::none::put_none;
 use crate::shown::put_shown;
 use answer_numbers::groups::take_input_state;
-use answer_numbers::groups::take_metrics;
 use answer_numbers::sink::Sink;
 use answer_numbers::sink::SinkKind;
 use answer_numbers::sink::sink_from;
@@ -18,38 +17,9 @@ use answer_numbers::sink::take_plain;
 use calls::call::Call;
 use calls::call::RouterCall;
 use composition_input::answer::OptionalInputState;
-use composition_panels::answer::OptionalMetrics;
 use counter::answer::Answer;
 use counter::step::Counter;
 use input_releases::answer::RouteKind;
-
-// The metrics that an update made.
-fn put_metrics(out: &mut [u8], at: usize, sink_kind: SinkKind, metrics: OptionalMetrics) -> usize
-    ensures { λ r. ⌜ _≡_ {A = List ℕ × ℕ} (now (out .exit), r)
-        (morePlaced «sink_kind» (metricsMore metrics) (now (out .entry), at)) ⌝ }
-{
-    match metrics {
-        OptionalMetrics::None => put_none(out, at, sink_kind),
-        OptionalMetrics::Some(m) => {
-            let end = take_metrics(out, sink_from(sink_kind, at), m);
-            end.at
-        }
-    }
-}
-
-// What a suspend let go.
-fn put_state(out: &mut [u8], at: usize, sink_kind: SinkKind, state: OptionalInputState) -> usize
-    ensures { λ r. ⌜ _≡_ {A = List ℕ × ℕ} (now (out .exit), r)
-        (morePlaced «sink_kind» (stateMore state) (now (out .entry), at)) ⌝ }
-{
-    match state {
-        OptionalInputState::None => put_none(out, at, sink_kind),
-        OptionalInputState::Some(s) => {
-            let end = take_input_state(out, sink_from(sink_kind, at), s);
-            end.at
-        }
-    }
-}
 
 // What a view's loss let go.
 fn take_loss(out: &mut [u8], sink: Sink, state: OptionalInputState) -> Sink
@@ -127,39 +97,25 @@ pub fn put_more(
         return put_none(out, at, sink_kind);
     }
     match call {
-        Call::Panel(_) => {
-            let made = answer.made;
-            let metrics = made.metrics;
-            put_metrics(out, at, sink_kind, metrics)
-        }
-        Call::Input(_) => {
-            let made = answer.made;
-            let state = made.input_state;
-            put_state(out, at, sink_kind, state)
-        }
-        Call::ReleaseDevice(_) => put_none(out, at, sink_kind),
-        Call::Shortcut(_) => put_none(out, at, sink_kind),
-        Call::Arbitrate(_) => put_none(out, at, sink_kind),
         Call::Close(which) => {
-            put_closing(
+            return put_closing(
                 out,
                 at,
                 sink_kind,
                 which,
                 answer.listed.closed,
                 answer.listed.shutdown,
-            )
+            );
         }
         Call::Router(which) => {
             let report = answer.report;
             let kind = report.kind;
             let state = report.view_release;
-            put_routed(out, at, sink_kind, which, kind, state)
+            return put_routed(out, at, sink_kind, which, kind, state);
         }
-        Call::Read(_) => {
-            let read = answer.read;
-            let shown = read.shown;
-            put_shown(out, at, sink_kind, shown, read.hits, counter.registry)
+        _ => {
+            let shown = answer.shown;
+            return put_shown(out, at, sink_kind, shown, counter.registry);
         }
     }
 }

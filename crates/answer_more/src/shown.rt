@@ -1,4 +1,4 @@
-// What a call that alters nothing shows.
+// What a call shows beside its handle, its lists and its report.
 ghost use Prim.Native.Nat.{ℕ};
 ghost use mathlib.Core.List.{List};
 ghost use mathlib.Core.Path.{_≡_};
@@ -8,7 +8,7 @@ ghost use Rattle.answer_numbers.specs.Numbers.{numbersTaken};
 ghost use Rattle.registry_dump.specs.Views.{capturesNumbers, viewLayersNumbers};
 ghost use Rattle.answer_more.specs.Place.{morePlaced};
 ghost use Rattle.answer_more.specs.Shown.{shownMore};
-use crate::hits::take_hit_numbers;
+use crate::hits::take_hits_at;
 use crate::hits::take_local;
 use crate::hits::take_shown_counts;
 use crate::none::put_none;
@@ -19,10 +19,9 @@ use answer_numbers::sink::Sink;
 use answer_numbers::sink::SinkKind;
 use answer_numbers::sink::sink_from;
 use answer_numbers::sink::take_plain;
+use calls::shown::Shown;
 use composition_state::registry::CompositionRegistry;
 use handles::GenerationalHandle;
-use read_step::answer::Shown;
-use read_step::hits::HitNumbers;
 use records::surface::SurfaceTable;
 use records::view::ViewTable;
 use registry_dump::traces::take_traces;
@@ -59,11 +58,10 @@ pub fn put_shown(
     at: usize,
     sink_kind: SinkKind,
     shown: Shown,
-    hits: HitNumbers,
     registry: CompositionRegistry,
 ) -> usize
     ensures { λ r. ⌜ _≡_ {A = List ℕ × ℕ} (now (out .exit), r)
-        (morePlaced «sink_kind» (shownMore shown hits registry) (now (out .entry), at)) ⌝ }
+        (morePlaced «sink_kind» (shownMore shown registry) (now (out .entry), at)) ⌝ }
 {
     let sink = sink_from(sink_kind, at);
     match shown {
@@ -101,8 +99,8 @@ pub fn put_shown(
             let end = take_plain(out, sink, n);
             end.at
         }
-        Shown::Hits => {
-            let end = take_hit_numbers(out, sink, hits);
+        Shown::Hits(given) => {
+            let end = take_hits_at(out, sink, registry, given);
             end.at
         }
         Shown::Local(local) => {

@@ -4,10 +4,7 @@ use Rattle.lists.specs.Tables.{packed}
 use Rattle.handles.specs.declared.OptionalHandle.{OptionalHandle}
 use Rattle.handles.specs.declared.OptionalHandle.the-variants as handle
 use Rattle.records.specs.declared.error.Outcome.{Outcome}
-use Rattle.composition_panels.specs.declared.answer.OptionalMetrics.{OptionalMetrics}
-use Rattle.composition_panels.specs.declared.answer.OptionalMetrics.the-variants as metrics
 use Rattle.release_lists.specs.declared.captures.CaptureList.{CaptureList}
-use Rattle.composition_input.specs.declared.answer.OptionalInputState.{OptionalInputState}
 use Rattle.composition_input.specs.declared.answer.OptionalInputState.the-variants as state
 use Rattle.release_lists.specs.Captures.{captureList}
 use Rattle.composition_arbitration.specs.declared.arbitrate.ArbitrationResult.{ArbitrationResult}
@@ -19,19 +16,12 @@ use Rattle.release_lists.specs.Releases.{releases}
 use Rattle.input_releases.specs.declared.answer.PlatformInputRoutingReport.{PlatformInputRoutingReport}
 use Rattle.input_releases.specs.declared.answer.RouteKind.the-variants as kind
 use Rattle.input_releases.specs.Answers.{noResult, noReport}
-use Rattle.read_step.specs.declared.answer.Shown.{Shown}
-use Rattle.read_step.specs.declared.answer.Shown.the-variants as shown
-use Rattle.read_step.specs.declared.hits.HitNumbers.{HitNumbers}
-use Rattle.read_step.specs.Reads.{hitTable}
+use Rattle.calls.specs.declared.shown.Shown.{Shown}
+use Rattle.calls.specs.declared.shown.Shown.the-variants as shown
 use Rattle.input_events.specs.declared.error.RouterOutcome.{RouterOutcome}
 use Rattle.input_events.specs.RouterErrors.{fromComposition}
 use Rattle.counter.specs.declared.answer.Answer.{Answer}
 use Rattle.counter.specs.declared.answer.Listed.{Listed}
-use Rattle.counter.specs.declared.answer.Made.{Made}
-use Rattle.counter.specs.declared.answer.ReadOut.{ReadOut}
-
-abbrev pub nothingMade : Made
-nothingMade = record { handle = handle.None; metrics = metrics.None; «input_state» = state.None }
 
 unfoldable pub nothingListed : Listed
 nothingListed = record { captures = packed captureList []; closed = notClosed; shutdown = noShutdown }
@@ -45,9 +35,6 @@ closeListed x = record { captures = packed captureList []; closed = x; shutdown 
 
 unfoldable pub shutdownListed : CompositionShutdownReport → Listed
 shutdownListed x = record { captures = packed captureList []; closed = notClosed; shutdown = x }
-
-unfoldable pub nothingRead : ReadOut
-nothingRead = record { shown = shown.Nothing; hits = packed hitTable [] }
 
 -- of a report, the part that an arbitration answers, and the part that a router release answers
 unfoldable pub arbitrationAlone : ArbitrationResult → PlatformInputRoutingReport
@@ -70,33 +57,23 @@ releasesAlone l =
       «composition_revision» = 0;
     }
 
--- the answer of a call on the registry that lists nothing
-abbrev pub registryAnswer : Outcome → OptionalHandle → OptionalMetrics → OptionalInputState → Answer
-registryAnswer o h m s =
-    record {
-      outcome = fromComposition o;
-      made = record { handle = h; metrics = m; «input_state» = s };
-      report = noReport;
-      listed = nothingListed;
-      read = nothingRead;
-    }
+-- the answer of a call that lists nothing and has no report: one on the registry, or one that alters nothing
+abbrev pub shownAnswer : Outcome → OptionalHandle → Shown → Answer
+shownAnswer o h s =
+    record { outcome = fromComposition o; handle = h; shown = s; report = noReport; listed = nothingListed }
 
 -- of a release of a device's captures, a panel's close, a shutdown
 abbrev pub listingAnswer : Outcome → Listed → Answer
 listingAnswer o l =
-    record { outcome = fromComposition o; made = nothingMade; report = noReport; listed = l; read = nothingRead }
+    record {
+      outcome = fromComposition o;
+      handle = handle.None;
+      shown = shown.Nothing;
+      report = noReport;
+      listed = l;
+    }
 
 -- of an arbitration, a routed event, a router release
 abbrev pub reportAnswer : RouterOutcome → PlatformInputRoutingReport → Answer
-reportAnswer o x = record { outcome = o; made = nothingMade; report = x; listed = nothingListed; read = nothingRead }
-
--- of a call that alters nothing
-abbrev pub readAnswer : Outcome → Shown → HitNumbers → Answer
-readAnswer o s h =
-    record {
-      outcome = fromComposition o;
-      made = nothingMade;
-      report = noReport;
-      listed = nothingListed;
-      read = record { shown = s; hits = h };
-    }
+reportAnswer o x =
+    record { outcome = o; handle = handle.None; shown = shown.Nothing; report = x; listed = nothingListed }

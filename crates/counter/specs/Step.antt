@@ -1,5 +1,6 @@
 -- Any call of the port on any counter: each case is sent to the definition of its call. A refusal of the registry keeps
 -- its own number.
+use Rattle.handles.specs.declared.OptionalHandle.the-variants.{None}
 use Rattle.composition_state.specs.declared.registry.CompositionRegistry.{CompositionRegistry}
 use Rattle.composition_arbitration.specs.declared.arbitrate.Arbitrated.{Arbitrated}
 use Rattle.composition_arbitration.specs.Arbitration.{arbitrated}
@@ -26,7 +27,7 @@ use Rattle.registry_step.specs.declared.steps.RegistryStepped.{RegistryStepped}
 use Rattle.counter.specs.declared.answer.Answer.{Answer}
 use Rattle.counter.specs.declared.step.Counter.{Counter}
 use Rattle.counter.specs.declared.step.Stepped.{Stepped}
-use Rattle.counter.specs.Answers.{capturesListed, closeListed, shutdownListed, arbitrationAlone, releasesAlone, registryAnswer, listingAnswer, reportAnswer, readAnswer}
+use Rattle.counter.specs.Answers.{capturesListed, closeListed, shutdownListed, arbitrationAlone, releasesAlone, shownAnswer, listingAnswer, reportAnswer}
 use Rattle.read_step.specs.declared.steps.ReadStepped.{ReadStepped}
 use Rattle.read_step.specs.Reads.{readStep}
 use Rattle.registry_step.specs.Steps.{panelStep, inputStep, shortcutStep}
@@ -37,7 +38,7 @@ steppedTo a r t = record { answer = a; counter = record { registry = r; router =
 
 -- a call on the registry leaves the router as it was
 abbrev pub fromRegistry : RegistryStepped → PlatformInputRouter → Stepped
-fromRegistry s t = steppedTo (registryAnswer (s .outcome) (s .handle) (s .metrics) (s .«input_state»)) (s .registry) t
+fromRegistry s t = steppedTo (shownAnswer (s .outcome) (s .handle) (s .shown)) (s .registry) t
 
 abbrev pub fromCaptures : CapturesReleased → PlatformInputRouter → Stepped
 fromCaptures c t = steppedTo (listingAnswer (c .outcome) (capturesListed (c .released))) (c .registry) t
@@ -61,7 +62,7 @@ fromReleased r x = steppedTo (reportAnswer (x .outcome) (releasesAlone (x .relea
 
 -- a call that alters nothing leaves both as they were
 abbrev pub fromRead : Counter → ReadStepped → Stepped
-fromRead c x = record { answer = readAnswer (x .outcome) (x .shown) (x .hits); counter = c }
+fromRead c x = record { answer = shownAnswer (x .outcome) None (x .shown); counter = c }
 
 unfoldable pub closeStep : Counter → CloseCall → Stepped
 closeStep c (close.CloseSurface surface) = fromClosed (closeSurface (c .registry) surface) (c .router)

@@ -1,12 +1,12 @@
 // What a call answers. An enum holds no array, so that one struct has the answers of every call; what a call does not
 // answer is blank.
 ghost use mathlib.Core.Path.{_≡_};
-ghost use Rattle.counter.specs.Answers.{nothingMade, nothingListed, capturesListed, closeListed, shutdownListed, nothingRead, arbitrationAlone, releasesAlone, registryAnswer, listingAnswer, reportAnswer, readAnswer};
+ghost use Rattle.counter.specs.Answers.{nothingListed, capturesListed, closeListed, shutdownListed, arbitrationAlone, releasesAlone, shownAnswer, listingAnswer, reportAnswer};
+use calls::shown::Shown;
 use composition_arbitration::arbitrate::ArbitrationResult;
 use composition_close::answer::CompositionShutdownReport;
 use composition_close::answer::SurfaceCloseReport;
 use composition_input::answer::OptionalInputState;
-use composition_panels::answer::OptionalMetrics;
 use handles::OptionalHandle;
 use input_events::error::RouterOutcome;
 use input_events::error::from_composition;
@@ -14,18 +14,9 @@ use input_releases::answer::PlatformInputRoutingReport;
 use input_releases::answer::RouteKind;
 use input_releases::answer::no_report;
 use input_releases::answer::no_result;
-use read_step::answer::Shown;
-use read_step::hits::HitNumbers;
 use records::error::Outcome;
 use release_lists::captures::CaptureList;
 use release_lists::releases::Releases;
-
-// The handle that a create or an attach made, the metrics that an update made, and what a suspend let go.
-pub struct Made {
-    pub handle: OptionalHandle,
-    pub metrics: OptionalMetrics,
-    pub input_state: OptionalInputState,
-}
 
 // What a release of a device's captures, a panel's close and a shutdown list.
 pub struct Listed {
@@ -34,31 +25,14 @@ pub struct Listed {
     pub shutdown: CompositionShutdownReport,
 }
 
-// What a call that alters nothing answers.
-pub struct ReadOut {
-    pub shown: Shown,
-    pub hits: HitNumbers,
-}
-
-// `report` is that of a routed event; an arbitration and a router release answer their part of it.
+// `handle` is the one that a create or an attach made. `report` is that of a routed event; an arbitration and a router
+// release answer their part of it.
 pub struct Answer {
     pub outcome: RouterOutcome,
-    pub made: Made,
+    pub handle: OptionalHandle,
+    pub shown: Shown,
     pub report: PlatformInputRoutingReport,
     pub listed: Listed,
-    pub read: ReadOut,
-}
-
-impl Made {
-    pub fn nothing() -> Self
-        ensures { λ r. ⌜ r ≡ nothingMade ⌝ }
-    {
-        Self {
-            handle: OptionalHandle::None,
-            metrics: OptionalMetrics::None,
-            input_state: OptionalInputState::None,
-        }
-    }
 }
 
 impl Listed {
@@ -112,18 +86,6 @@ impl Listed {
     }
 }
 
-impl ReadOut {
-    pub fn nothing() -> Self
-        ensures { λ r. ⌜ r ≡ nothingRead ⌝ }
-    {
-        let hits = HitNumbers::new();
-        Self {
-            shown: Shown::Nothing,
-            hits,
-        }
-    }
-}
-
 // The part of a report that an arbitration answers.
 pub fn of_arbitration(arbitration: ArbitrationResult) -> PlatformInputRoutingReport
     ensures { λ r. ⌜ r ≡ arbitrationAlone arbitration ⌝ }
@@ -153,30 +115,19 @@ pub fn of_releases(synthesized_releases: Releases) -> PlatformInputRoutingReport
 }
 
 impl Answer {
-    // The answer of a call on the registry that lists nothing.
-    pub fn of_registry(
-        refusal: Outcome,
-        handle: OptionalHandle,
-        metrics: OptionalMetrics,
-        input_state: OptionalInputState,
-    ) -> Self
-        ensures { λ r. ⌜ r ≡ registryAnswer refusal handle metrics «input_state» ⌝ }
+    // The answer of a call that lists nothing and has no report: one on the registry, or one that alters nothing.
+    pub fn of_shown(refusal: Outcome, handle: OptionalHandle, shown: Shown) -> Self
+        ensures { λ r. ⌜ r ≡ shownAnswer refusal handle shown ⌝ }
     {
         let outcome = from_composition(refusal);
-        let made = Made {
-            handle,
-            metrics,
-            input_state,
-        };
         let report = no_report();
         let listed = Listed::nothing();
-        let read = ReadOut::nothing();
         Self {
             outcome,
-            made,
+            handle,
+            shown,
             report,
             listed,
-            read,
         }
     }
 
@@ -185,15 +136,13 @@ impl Answer {
         ensures { λ r. ⌜ r ≡ listingAnswer refusal listed ⌝ }
     {
         let outcome = from_composition(refusal);
-        let made = Made::nothing();
         let report = no_report();
-        let read = ReadOut::nothing();
         Self {
             outcome,
-            made,
+            handle: OptionalHandle::None,
+            shown: Shown::Nothing,
             report,
             listed,
-            read,
         }
     }
 
@@ -201,33 +150,13 @@ impl Answer {
     pub fn of_report(outcome: RouterOutcome, report: PlatformInputRoutingReport) -> Self
         ensures { λ r. ⌜ r ≡ reportAnswer outcome report ⌝ }
     {
-        let made = Made::nothing();
         let listed = Listed::nothing();
-        let read = ReadOut::nothing();
         Self {
             outcome,
-            made,
+            handle: OptionalHandle::None,
+            shown: Shown::Nothing,
             report,
             listed,
-            read,
-        }
-    }
-
-    // Of a call that alters nothing.
-    pub fn of_read(refusal: Outcome, shown: Shown, hits: HitNumbers) -> Self
-        ensures { λ r. ⌜ r ≡ readAnswer refusal shown hits ⌝ }
-    {
-        let outcome = from_composition(refusal);
-        let made = Made::nothing();
-        let report = no_report();
-        let listed = Listed::nothing();
-        let read = ReadOut { shown, hits };
-        Self {
-            outcome,
-            made,
-            report,
-            listed,
-            read,
         }
     }
 }

@@ -4,7 +4,7 @@ ghost use Rattle.composition_arbitration.specs.Arbitration.{arbitrated};
 ghost use Rattle.composition_input.specs.Captures.{releaseDevicePointerCaptures};
 ghost use Rattle.read_step.specs.Reads.{readStep};
 ghost use Rattle.registry_step.specs.Steps.{panelStep, inputStep, shortcutStep};
-ghost use Rattle.counter.specs.Step.{fromRegistry, fromCaptures, fromArbitrated, fromClosed, fromShutdown, fromRouted, fromReleased, fromRead, closeStep, routerStep, stepped};
+ghost use Rattle.counter.specs.Step.{steppedTo, fromRegistry, fromCaptures, fromArbitrated, fromClosed, fromShutdown, fromRouted, fromReleased, fromRead, closeStep, routerStep, stepped};
 use crate::answer::Answer;
 use crate::answer::Listed;
 use crate::answer::of_arbitration;
@@ -29,6 +29,7 @@ use composition_input::answer::CapturesReleased;
 use composition_input::captures::release_device_pointer_captures;
 use composition_shortcuts::register::Registrations;
 use composition_state::registry::CompositionRegistry;
+use handles::OptionalHandle;
 use input_events::error::from_composition;
 use input_releases::answer::Routed;
 use input_route::route::route;
@@ -53,72 +54,80 @@ pub struct Stepped {
     pub counter: Counter,
 }
 
+// The one function that makes a `Stepped` of its parts: each local of its size makes the check longer.
+fn stepped_to(answer: Answer, registry: CompositionRegistry, router: PlatformInputRouter) -> Stepped
+    ensures { λ r. ⌜ r ≡ steppedTo answer registry router ⌝ }
+{
+    let counter = Counter { registry, router };
+    Stepped { answer, counter }
+}
+
 fn from_registry(stepped: RegistryStepped, router: PlatformInputRouter) -> Stepped
     ensures { λ r. ⌜ r ≡ fromRegistry stepped router ⌝ }
 {
     let refusal = stepped.outcome;
     let handle = stepped.handle;
-    let metrics = stepped.metrics;
-    let input_state = stepped.input_state;
-    let answer = Answer::of_registry(refusal, handle, metrics, input_state);
-    let registry = stepped.registry;
-    let counter = Counter { registry, router };
-    Stepped { answer, counter }
+    let shown = stepped.shown;
+    stepped_to(
+        Answer::of_shown(refusal, handle, shown),
+        stepped.registry,
+        router,
+    )
 }
 
 fn from_captures(released: CapturesReleased, router: PlatformInputRouter) -> Stepped
     ensures { λ r. ⌜ r ≡ fromCaptures released router ⌝ }
 {
     let refusal = released.outcome;
-    let listed = Listed::of_captures(released.released);
-    let answer = Answer::of_listing(refusal, listed);
-    let registry = released.registry;
-    let counter = Counter { registry, router };
-    Stepped { answer, counter }
+    stepped_to(
+        Answer::of_listing(refusal, Listed::of_captures(released.released)),
+        released.registry,
+        router,
+    )
 }
 
 fn from_arbitrated(arbitrated: Arbitrated, router: PlatformInputRouter) -> Stepped
     ensures { λ r. ⌜ r ≡ fromArbitrated arbitrated router ⌝ }
 {
     let refusal = arbitrated.outcome;
-    let report = of_arbitration(arbitrated.result);
-    let answer = Answer::of_report(from_composition(refusal), report);
-    let registry = arbitrated.registry;
-    let counter = Counter { registry, router };
-    Stepped { answer, counter }
+    stepped_to(
+        Answer::of_report(from_composition(refusal), of_arbitration(arbitrated.result)),
+        arbitrated.registry,
+        router,
+    )
 }
 
 fn from_closed(closed: SurfaceClosed, router: PlatformInputRouter) -> Stepped
     ensures { λ r. ⌜ r ≡ fromClosed closed router ⌝ }
 {
     let refusal = closed.outcome;
-    let listed = Listed::of_close(closed.report);
-    let answer = Answer::of_listing(refusal, listed);
-    let registry = closed.registry;
-    let counter = Counter { registry, router };
-    Stepped { answer, counter }
+    stepped_to(
+        Answer::of_listing(refusal, Listed::of_close(closed.report)),
+        closed.registry,
+        router,
+    )
 }
 
 fn from_shutdown(done: Shutdown, router: PlatformInputRouter) -> Stepped
     ensures { λ r. ⌜ r ≡ fromShutdown done router ⌝ }
 {
     let refusal = done.outcome;
-    let listed = Listed::of_shutdown(done.report);
-    let answer = Answer::of_listing(refusal, listed);
-    let registry = done.registry;
-    let counter = Counter { registry, router };
-    Stepped { answer, counter }
+    stepped_to(
+        Answer::of_listing(refusal, Listed::of_shutdown(done.report)),
+        done.registry,
+        router,
+    )
 }
 
 fn from_routed(routed: Routed) -> Stepped
     ensures { λ r. ⌜ r ≡ fromRouted routed ⌝ }
 {
     let outcome = routed.outcome;
-    let answer = Answer::of_report(outcome, routed.report);
-    let registry = routed.registry;
-    let router = routed.router;
-    let counter = Counter { registry, router };
-    Stepped { answer, counter }
+    stepped_to(
+        Answer::of_report(outcome, routed.report),
+        routed.registry,
+        routed.router,
+    )
 }
 
 // A router release leaves the registry as it was.
@@ -126,11 +135,11 @@ fn from_released(registry: CompositionRegistry, released: Released) -> Stepped
     ensures { λ r. ⌜ r ≡ fromReleased registry released ⌝ }
 {
     let outcome = released.outcome;
-    let report = of_releases(released.releases);
-    let answer = Answer::of_report(outcome, report);
-    let router = released.router;
-    let counter = Counter { registry, router };
-    Stepped { answer, counter }
+    stepped_to(
+        Answer::of_report(outcome, of_releases(released.releases)),
+        registry,
+        released.router,
+    )
 }
 
 // A call that alters nothing leaves the counter as it was.
@@ -139,7 +148,7 @@ fn from_read(counter: Counter, done: ReadStepped) -> Stepped
 {
     let refusal = done.outcome;
     let shown = done.shown;
-    let answer = Answer::of_read(refusal, shown, done.hits);
+    let answer = Answer::of_shown(refusal, OptionalHandle::None, shown);
     Stepped { answer, counter }
 }
 
@@ -147,11 +156,12 @@ fn close_step(counter: Counter, call: CloseCall) -> Stepped
     ensures { λ r. ⌜ r ≡ closeStep counter call ⌝ }
 {
     match call {
-        CloseCall::CloseSurface(surface) => from_closed(
-            close_surface(counter.registry, surface),
-            counter.router,
-        ),
-        CloseCall::Shutdown => from_shutdown(shutdown(counter.registry), counter.router),
+        CloseCall::CloseSurface(surface) => {
+            return from_closed(close_surface(counter.registry, surface), counter.router);
+        }
+        CloseCall::Shutdown => {
+            return from_shutdown(shutdown(counter.registry), counter.router);
+        }
     }
 }
 
@@ -160,12 +170,15 @@ pub fn router_step(counter: Counter, call: RouterCall) -> Stepped
     ensures { λ r. ⌜ r ≡ routerStep counter call ⌝ }
 {
     match call {
-        RouterCall::Route(event) => from_routed(route(counter.registry, counter.router, event)),
-        RouterCall::ReleaseSurface(surface) => from_released(
-            counter.registry,
-            counter.router.release_surface(surface),
-        ),
-        RouterCall::ReleaseAll => from_released(counter.registry, counter.router.release_all()),
+        RouterCall::Route(event) => {
+            return from_routed(route(counter.registry, counter.router, event));
+        }
+        RouterCall::ReleaseSurface(surface) => {
+            return from_released(counter.registry, counter.router.release_surface(surface));
+        }
+        RouterCall::ReleaseAll => {
+            return from_released(counter.registry, counter.router.release_all());
+        }
     }
 }
 
@@ -223,13 +236,29 @@ pub fn step(counter: Counter, call: Call, lists: Lists) -> Stepped
     ensures { λ r. ⌜ r ≡ stepped counter call lists ⌝ }
 {
     match call {
-        Call::Panel(which) => panel_call(counter, which),
-        Call::Input(which) => input_call(counter, which),
-        Call::ReleaseDevice(given) => device_call(counter, given),
-        Call::Shortcut(which) => shortcut_call(counter, which, lists.registrations),
-        Call::Arbitrate(given) => arbitrate_call(counter, given, lists.hits),
-        Call::Close(which) => close_step(counter, which),
-        Call::Router(which) => router_step(counter, which),
-        Call::Read(which) => read_call(counter, which),
+        Call::Panel(which) => {
+            return panel_call(counter, which);
+        }
+        Call::Input(which) => {
+            return input_call(counter, which);
+        }
+        Call::ReleaseDevice(given) => {
+            return device_call(counter, given);
+        }
+        Call::Shortcut(which) => {
+            return shortcut_call(counter, which, lists.registrations);
+        }
+        Call::Arbitrate(given) => {
+            return arbitrate_call(counter, given, lists.hits);
+        }
+        Call::Close(which) => {
+            return close_step(counter, which);
+        }
+        Call::Router(which) => {
+            return router_step(counter, which);
+        }
+        Call::Read(which) => {
+            return read_call(counter, which);
+        }
     }
 }

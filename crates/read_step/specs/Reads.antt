@@ -1,20 +1,14 @@
 -- The calls that alter nothing, each sent to the definition of its call.
-use Prim.Native.Nat.{ℕ}
-use mathlib.Core.Path.{refl}
 use mathlib.Core.Bool.{not}
-use mathlib.Core.List.{[]}
 use lib.ListN.{length}
-use Rattle.lists.specs.Tables.{Shape, packed}
-use Rattle.geometry.specs.declared.transform.Point.{Point}
 use Rattle.geometry.specs.Transform.{inversePoint}
-use Rattle.handles.specs.declared.GenerationalHandle.{GenerationalHandle}
 use Rattle.records.specs.declared.error.CompositionError.the-variants.{Damaged}
 use Rattle.records.specs.declared.error.Outcome.{Outcome}
 use Rattle.records.specs.declared.error.Outcome.the-variants.{Accepted, Refused}
 use Rattle.composition_state.specs.declared.registry.CompositionRegistry.{CompositionRegistry}
 use Rattle.composition_state.specs.Damage.{damageRefusal}
 use Rattle.records.specs.Errors.{refusalIf}
-use Rattle.composition_hits.specs.HitTest.{hitTestRefusal, hitNumbers}
+use Rattle.composition_hits.specs.HitTest.{hitTestRefusal}
 use Rattle.composition_reads.specs.Reads.{viewWindow, viewMetrics, viewInputState, viewPointerCaptures, viewLayers, surfaceDescriptor}
 use Rattle.input_router.specs.declared.router.PlatformInputRouter.{PlatformInputRouter}
 use Rattle.input_router.specs.Damage.{isRouterSound}
@@ -23,23 +17,10 @@ use Rattle.calls.specs.declared.arguments.HitTestArguments.{HitTestArguments}
 use Rattle.calls.specs.declared.arguments.InversePointArguments.{InversePointArguments}
 use Rattle.calls.specs.declared.call.ReadCall.{ReadCall}
 use Rattle.calls.specs.declared.call.ReadCall.the-variants as read
-use Rattle.read_step.specs.declared.answer.Counts.{Counts}
-use Rattle.read_step.specs.declared.answer.Shown.{Shown}
-use Rattle.read_step.specs.declared.answer.Shown.the-variants as shown
-use Rattle.read_step.specs.declared.hits.HitNumbers.{HitNumbers}
+use Rattle.calls.specs.declared.shown.Counts.{Counts}
+use Rattle.calls.specs.declared.shown.Shown.{Shown}
+use Rattle.calls.specs.declared.shown.Shown.the-variants as shown
 use Rattle.read_step.specs.declared.steps.ReadStepped.{ReadStepped}
-
--- two numbers for each of at most 16 hits
-abbrev pub hitTable : Shape ℕ HitNumbers
-hitTable = record {
-  size = 32;
-  blank = 0;
-  make = λ l n. record { items = l; len = n };
-  all = λ t. t .items;
-  len = λ t. t .len;
-  all-make = λ l n. refl;
-  len-make = λ l n. refl;
-}
 
 abbrev pub countsOf : CompositionRegistry → Counts
 countsOf r = record {
@@ -57,17 +38,11 @@ shownIf Accepted s = s
 shownIf (Refused e) s = shown.Nothing
 
 abbrev pub readOf : Outcome → Shown → ReadStepped
-readOf o s = record { outcome = o; shown = shownIf o s; hits = packed hitTable [] }
+readOf o s = record { outcome = o; shown = shownIf o s }
 
--- RULES.md, Hit test: a buffer of 32 numbers is enough for every test, so a longer one is answered as one of 32
-abbrev pub hitsIf : Outcome → CompositionRegistry → GenerationalHandle → Point → HitNumbers
-hitsIf Accepted r view p = packed hitTable (hitNumbers r view p 32)
-hitsIf (Refused e) r view p = packed hitTable []
-
+-- RULES.md, Hit test: 42, 8/9, 41; the hits are those of the view at the point, in the registry that stays as it was
 abbrev pub hitRead : CompositionRegistry → HitTestArguments → ReadStepped
-hitRead r a =
-    let o = hitTestRefusal r (a .view) (a .length) in
-    record { outcome = o; shown = shownIf o shown.Hits; hits = hitsIf o r (a .view) (a .point) }
+hitRead r a = readOf (hitTestRefusal r (a .view) (a .length)) (shown.Hits a)
 
 abbrev pub localRead : InversePointArguments → ReadStepped
 localRead a = readOf Accepted (shown.Local (inversePoint (a .transform) (a .point .«x_milli») (a .point .«y_milli»)))

@@ -1,14 +1,18 @@
 // Each call that alters nothing.
 ghost use mathlib.Core.Path.{_≡_};
-ghost use Rattle.read_step.specs.Reads.{shownIf, readOf, hitRead, localRead, tracesStep, countsStep, routerDamage, openStep, readStep};
-use crate::answer::Shown;
-use crate::answer::count;
-use crate::hits::HitNumbers;
-use crate::hits::hits_if;
+ghost use Rattle.read_step.specs.Reads.{countsOf, shownIf, readOf, hitRead, localRead, tracesStep, countsStep, routerDamage, openStep, readStep};
 use calls::arguments::HitTestArguments;
 use calls::arguments::InversePointArguments;
 use calls::call::ReadCall;
+use calls::shown::Counts;
+use calls::shown::Shown;
 use composition_hits::stack::hit_test_refusal;
+use composition_reads::live_surface_count;
+use composition_reads::live_view_count;
+use composition_reads::live_window_count;
+use composition_reads::revision;
+use composition_reads::session;
+use composition_reads::session_epoch;
 use composition_reads::surface_descriptor;
 use composition_reads::view_input_state;
 use composition_reads::view_layers;
@@ -23,7 +27,6 @@ use records::error::Outcome;
 pub struct ReadStepped {
     pub outcome: Outcome,
     pub shown: Shown,
-    pub hits: HitNumbers,
 }
 
 // A refused read shows nothing.
@@ -42,19 +45,15 @@ fn read(outcome: Outcome, shown: Shown) -> ReadStepped
     ReadStepped {
         outcome,
         shown: shown_if(outcome, shown),
-        hits: HitNumbers::new(),
     }
 }
 
+// The hits themselves are found where they are written.
 fn read_hits(registry: CompositionRegistry, given: HitTestArguments) -> ReadStepped
     ensures { λ r. ⌜ r ≡ hitRead registry given ⌝ }
 {
     let outcome = hit_test_refusal(registry, given.view, given.length as usize);
-    ReadStepped {
-        outcome,
-        shown: shown_if(outcome, Shown::Hits),
-        hits: hits_if(outcome, registry, given.view, given.point),
-    }
+    read(outcome, Shown::Hits(given))
 }
 
 fn read_local(given: InversePointArguments) -> ReadStepped
@@ -70,6 +69,19 @@ fn read_traces(registry: CompositionRegistry) -> ReadStepped
     ensures { λ r. ⌜ r ≡ tracesStep registry ⌝ }
 {
     read(registry.damage(), Shown::Traces)
+}
+
+fn count(registry: CompositionRegistry) -> Counts
+    ensures { λ r. ⌜ r ≡ countsOf registry ⌝ }
+{
+    Counts {
+        session: session(registry),
+        session_epoch: session_epoch(registry),
+        revision: revision(registry),
+        windows: live_window_count(registry),
+        views: live_view_count(registry),
+        surfaces: live_surface_count(registry),
+    }
 }
 
 fn read_counts(registry: CompositionRegistry) -> ReadStepped

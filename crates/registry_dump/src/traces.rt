@@ -45,7 +45,7 @@ fn count_hits(list: Hits) -> usize
     16
 }
 
-fn take_hits(out: &mut [u8], sink: Sink, hits: Hits) -> Sink
+pub fn take_hits(out: &mut [u8], sink: Sink, hits: Hits) -> Sink
     ensures { λ r. ⌜ _≡_ {A = List ℕ × Sink} (now (out .exit), r)
         (numbersTaken (hitsNumbers hits) (now (out .entry), sink)) ⌝ }
 {

@@ -4,10 +4,12 @@ use Rattle.composition_state.specs.declared.registry.Changed.{Changed}
 use Rattle.composition_state.specs.declared.registry.CompositionRegistry.{CompositionRegistry}
 use Rattle.composition_panels.specs.declared.answer.Created.{Created}
 use Rattle.composition_panels.specs.declared.answer.MetricsUpdated.{MetricsUpdated}
+use Rattle.composition_panels.specs.declared.answer.OptionalMetrics.{OptionalMetrics}
 use Rattle.composition_panels.specs.declared.answer.OptionalMetrics.the-variants as metrics
 use Rattle.composition_panels.specs.Windows.{createWindow, closeWindow, createView, closeView}
 use Rattle.composition_panels.specs.Metrics.{updateViewMetrics}
 use Rattle.composition_panels.specs.Panels.{attachSurface, updateSurfaceGeometry, updateSurfaceInputPolicy}
+use Rattle.composition_input.specs.declared.answer.OptionalInputState.{OptionalInputState}
 use Rattle.composition_input.specs.declared.answer.OptionalInputState.the-variants as state
 use Rattle.composition_input.specs.declared.answer.Suspended.{Suspended}
 use Rattle.composition_input.specs.Focus.{setFocus, beginIme, endIme, suspendViewInput}
@@ -20,48 +22,34 @@ use Rattle.calls.specs.declared.call.InputCall.{InputCall}
 use Rattle.calls.specs.declared.call.InputCall.the-variants as input
 use Rattle.calls.specs.declared.call.ShortcutCall.{ShortcutCall}
 use Rattle.calls.specs.declared.call.ShortcutCall.the-variants as shortcut
+use Rattle.calls.specs.declared.shown.Shown.{Shown}
+use Rattle.calls.specs.declared.shown.Shown.the-variants as shown
 use Rattle.registry_step.specs.declared.steps.RegistryStepped.{RegistryStepped}
 
--- what a call does not answer is none
+-- the metrics that an update made; a refused one made none
+abbrev pub metricsShown : OptionalMetrics → Shown
+metricsShown metrics.None = shown.Nothing
+metricsShown (metrics.Some m) = shown.Metrics m
+
+-- what a suspend let go; a refused one let nothing go
+abbrev pub stateShown : OptionalInputState → Shown
+stateShown state.None = shown.Nothing
+stateShown (state.Some s) = shown.InputState s
+
+-- a call that makes no handle answers none, and one with nothing to show shows nothing
 abbrev pub ofChanged : Changed → RegistryStepped
-ofChanged c =
-    record {
-      outcome = c .outcome;
-      handle = handle.None;
-      metrics = metrics.None;
-      «input_state» = state.None;
-      registry = c .registry;
-    }
+ofChanged c = record { outcome = c .outcome; handle = handle.None; shown = shown.Nothing; registry = c .registry }
 
 abbrev pub ofCreated : Created → RegistryStepped
-ofCreated c =
-    record {
-      outcome = c .outcome;
-      handle = c .handle;
-      metrics = metrics.None;
-      «input_state» = state.None;
-      registry = c .registry;
-    }
+ofCreated c = record { outcome = c .outcome; handle = c .handle; shown = shown.Nothing; registry = c .registry }
 
 abbrev pub ofMetrics : MetricsUpdated → RegistryStepped
 ofMetrics u =
-    record {
-      outcome = u .outcome;
-      handle = handle.None;
-      metrics = u .metrics;
-      «input_state» = state.None;
-      registry = u .registry;
-    }
+    record { outcome = u .outcome; handle = handle.None; shown = metricsShown (u .metrics); registry = u .registry }
 
 abbrev pub ofSuspended : Suspended → RegistryStepped
 ofSuspended s =
-    record {
-      outcome = s .outcome;
-      handle = handle.None;
-      metrics = metrics.None;
-      «input_state» = s .released;
-      registry = s .registry;
-    }
+    record { outcome = s .outcome; handle = handle.None; shown = stateShown (s .released); registry = s .registry }
 
 -- RULES.md, Windows and views; Panels: attach, geometry, policy
 unfoldable pub panelStep : CompositionRegistry → PanelCall → RegistryStepped

@@ -1,9 +1,10 @@
 // The calls on the registry alone that list nothing: windows, views and panels, focus and captures, shortcuts.
 ghost use mathlib.Core.Path.{_≡_};
-ghost use Rattle.registry_step.specs.Steps.{ofChanged, ofCreated, ofMetrics, ofSuspended, panelStep, inputStep, shortcutStep};
+ghost use Rattle.registry_step.specs.Steps.{metricsShown, stateShown, ofChanged, ofCreated, ofMetrics, ofSuspended, panelStep, inputStep, shortcutStep};
 use calls::call::InputCall;
 use calls::call::PanelCall;
 use calls::call::ShortcutCall;
+use calls::shown::Shown;
 use composition_input::answer::OptionalInputState;
 use composition_input::answer::Suspended;
 use composition_input::captures::capture_pointer;
@@ -34,13 +35,32 @@ use composition_state::registry::CompositionRegistry;
 use handles::OptionalHandle;
 use records::error::Outcome;
 
-// What such a call answers, and the registry after it. What a call does not answer is `None`.
+// What such a call answers, and the registry after it. What a call does not answer is `None` or `Nothing`.
 pub struct RegistryStepped {
     pub outcome: Outcome,
     pub handle: OptionalHandle,
-    pub metrics: OptionalMetrics,
-    pub input_state: OptionalInputState,
+    pub shown: Shown,
     pub registry: CompositionRegistry,
+}
+
+// The metrics that an update made.
+fn metrics_shown(metrics: OptionalMetrics) -> Shown
+    ensures { λ r. ⌜ r ≡ metricsShown metrics ⌝ }
+{
+    match metrics {
+        OptionalMetrics::None => Shown::Nothing,
+        OptionalMetrics::Some(made) => Shown::Metrics(made),
+    }
+}
+
+// What a suspend let go.
+fn state_shown(state: OptionalInputState) -> Shown
+    ensures { λ r. ⌜ r ≡ stateShown state ⌝ }
+{
+    match state {
+        OptionalInputState::None => Shown::Nothing,
+        OptionalInputState::Some(released) => Shown::InputState(released),
+    }
 }
 
 fn of_changed(changed: Changed) -> RegistryStepped
@@ -51,8 +71,7 @@ fn of_changed(changed: Changed) -> RegistryStepped
     RegistryStepped {
         outcome,
         handle: OptionalHandle::None,
-        metrics: OptionalMetrics::None,
-        input_state: OptionalInputState::None,
+        shown: Shown::Nothing,
         registry,
     }
 }
@@ -66,8 +85,7 @@ fn of_created(created: Created) -> RegistryStepped
     RegistryStepped {
         outcome,
         handle,
-        metrics: OptionalMetrics::None,
-        input_state: OptionalInputState::None,
+        shown: Shown::Nothing,
         registry,
     }
 }
@@ -81,8 +99,7 @@ fn of_metrics(updated: MetricsUpdated) -> RegistryStepped
     RegistryStepped {
         outcome,
         handle: OptionalHandle::None,
-        metrics,
-        input_state: OptionalInputState::None,
+        shown: metrics_shown(metrics),
         registry,
     }
 }
@@ -91,13 +108,12 @@ fn of_suspended(suspended: Suspended) -> RegistryStepped
     ensures { λ r. ⌜ r ≡ ofSuspended suspended ⌝ }
 {
     let outcome = suspended.outcome;
-    let input_state = suspended.released;
+    let released = suspended.released;
     let registry = suspended.registry;
     RegistryStepped {
         outcome,
         handle: OptionalHandle::None,
-        metrics: OptionalMetrics::None,
-        input_state,
+        shown: state_shown(released),
         registry,
     }
 }
@@ -106,60 +122,88 @@ pub fn panel_step(registry: CompositionRegistry, call: PanelCall) -> RegistrySte
     ensures { λ r. ⌜ r ≡ panelStep registry call ⌝ }
 {
     match call {
-        PanelCall::CreateWindow => of_created(create_window(registry)),
-        PanelCall::CloseWindow(window) => of_changed(close_window(registry, window)),
-        PanelCall::CreateView(window) => of_created(create_view(registry, window)),
+        PanelCall::CreateWindow => {
+            return of_created(create_window(registry));
+        }
+        PanelCall::CloseWindow(window) => {
+            return of_changed(close_window(registry, window));
+        }
+        PanelCall::CreateView(window) => {
+            return of_created(create_view(registry, window));
+        }
         PanelCall::UpdateViewMetrics(given) => {
             let view = given.view;
             let update = given.update;
-            of_metrics(update_view_metrics(registry, view, update, given.revision))
+            return of_metrics(update_view_metrics(registry, view, update, given.revision));
         }
-        PanelCall::CloseView(view) => of_changed(close_view(registry, view)),
-        PanelCall::AttachSurface(descriptor) => of_created(attach_surface(registry, descriptor)),
+        PanelCall::CloseView(view) => {
+            return of_changed(close_view(registry, view));
+        }
+        PanelCall::AttachSurface(descriptor) => {
+            return of_created(attach_surface(registry, descriptor));
+        }
         PanelCall::UpdateSurfaceGeometry(given) => {
             let geometry = given.geometry;
-            of_changed(update_surface_geometry(registry, given.surface, geometry, given.revision))
+            return of_changed(update_surface_geometry(
+                registry,
+                given.surface,
+                geometry,
+                given.revision,
+            ));
         }
         PanelCall::UpdateSurfaceInputPolicy(given) => {
             let input = given.input;
-            of_changed(update_surface_input_policy(registry, given.surface, input, given.revision))
+            return of_changed(update_surface_input_policy(
+                registry,
+                given.surface,
+                input,
+                given.revision,
+            ));
         }
     }
 }
 
+// One changed registry for all cases: each local of its size makes the check longer.
 pub fn input_step(registry: CompositionRegistry, call: InputCall) -> RegistryStepped
     ensures { λ r. ⌜ r ≡ inputStep registry call ⌝ }
 {
+    let mut changed = Changed {
+        outcome: Outcome::Accepted,
+        registry,
+    };
     match call {
         InputCall::SetFocus(given) => {
             let view = given.view;
             let surface = given.surface;
-            of_changed(set_focus(registry, view, surface, given.revision))
+            changed = set_focus(registry, view, surface, given.revision);
         }
         InputCall::CapturePointer(given) => {
-            of_changed(capture_pointer(registry, given.handle, given.revision))
+            changed = capture_pointer(registry, given.handle, given.revision);
         }
         InputCall::CapturePointerFor(given) => {
             let pointer = given.pointer;
             let surface = given.surface;
-            of_changed(capture_pointer_for(registry, pointer, surface, given.revision))
+            changed = capture_pointer_for(registry, pointer, surface, given.revision);
         }
         InputCall::ReleasePointer(given) => {
-            of_changed(release_pointer(registry, given.handle, given.revision))
+            changed = release_pointer(registry, given.handle, given.revision);
         }
         InputCall::ReleasePointerFor(given) => {
             let pointer = given.pointer;
             let surface = given.surface;
-            of_changed(release_pointer_for(registry, pointer, surface, given.revision))
+            changed = release_pointer_for(registry, pointer, surface, given.revision);
         }
         InputCall::BeginIme(given) => {
-            of_changed(begin_ime(registry, given.handle, given.revision))
+            changed = begin_ime(registry, given.handle, given.revision);
         }
-        InputCall::EndIme(given) => of_changed(end_ime(registry, given.handle, given.revision)),
+        InputCall::EndIme(given) => {
+            changed = end_ime(registry, given.handle, given.revision);
+        }
         InputCall::SuspendViewInput(given) => {
-            of_suspended(suspend_view_input(registry, given.handle, given.revision))
+            return of_suspended(suspend_view_input(registry, given.handle, given.revision));
         }
     }
+    of_changed(changed)
 }
 
 pub fn shortcut_step(
@@ -169,32 +213,37 @@ pub fn shortcut_step(
 ) -> RegistryStepped
     ensures { λ r. ⌜ r ≡ shortcutStep registry call registrations ⌝ }
 {
+    let mut changed = Changed {
+        outcome: Outcome::Accepted,
+        registry,
+    };
     match call {
         ShortcutCall::RegisterSet(given) => {
             let surface = given.handle;
-            of_changed(register_surface_system_shortcut_set(
+            changed = register_surface_system_shortcut_set(
                 registry,
                 surface,
                 registrations,
                 given.revision,
-            ))
+            );
         }
         ShortcutCall::RegisterOne(given) => {
             let registration = given.registration;
-            of_changed(register_surface_system_shortcuts(
+            changed = register_surface_system_shortcuts(
                 registry,
                 given.surface,
                 registration,
                 given.revision,
-            ))
+            );
         }
         ShortcutCall::SetMask(given) => {
-            of_changed(set_surface_system_shortcuts(
+            changed = set_surface_system_shortcuts(
                 registry,
                 given.surface,
                 given.class_mask,
                 given.revision,
-            ))
+            );
         }
     }
+    of_changed(changed)
 }

@@ -67,14 +67,14 @@ enum-known-shown-7 c = search needs
 take-plain-requires : tie.Need-take-plain-requires
 take-plain-requires c κs = search needs
 
-enum-told-4 : tie.Need-enum-told-4
-enum-told-4 c = search needs
-
-take-hit-numbers-requires : tie.Need-take-hit-numbers-requires
-take-hit-numbers-requires c κs = search needs
-
 enum-known-shown-8 : tie.Need-enum-known-shown-8
 enum-known-shown-8 c = search needs
+
+take-hits-at-requires : tie.Need-take-hits-at-requires
+take-hits-at-requires c κs = search needs
+
+enum-known-shown-9 : tie.Need-enum-known-shown-9
+enum-known-shown-9 c = search needs
 
 take-local-requires : tie.Need-take-local-requires
 take-local-requires c κs = search needs
@@ -143,13 +143,13 @@ same-length-11 : tie.Need-same-length-11
 same-length-11 c = search needs
 
 returns-11 : tie.Need-returns-11
-returns-11 c = rw (c .before .before .before .before .enum-told4 .given .1) (ended _ _ _ _ (c .before .before .before .before .before .before .sink-from .ensures) (c .before .before .take-hit-numbers .ensures))
+returns-11 c = rw (c .before .before .before .before .before .shown8 .given .1) (ended _ _ _ _ (c .before .before .before .before .before .before .before .sink-from .ensures) (c .before .before .take-hits-at .ensures))
 
 same-length-12 : tie.Need-same-length-12
 same-length-12 c = search needs
 
 returns-12 : tie.Need-returns-12
-returns-12 c = rw (c .before .before .before .before .before .shown8 .given .1) (ended _ _ _ _ (c .before .before .before .before .before .before .before .sink-from .ensures) (c .before .before .take-local .ensures))
+returns-12 c = rw (c .before .before .before .before .before .shown9 .given .1) (ended _ _ _ _ (c .before .before .before .before .before .before .before .sink-from .ensures) (c .before .before .take-local .ensures))
 
 pub put-shown-spec : {M : Type 1} → statement M
 put-shown-spec =
@@ -176,9 +176,9 @@ put-shown-spec =
     take-shown-counts-requires
     enum-known-shown-7
     take-plain-requires
-    enum-told-4
-    take-hit-numbers-requires
     enum-known-shown-8
+    take-hits-at-requires
+    enum-known-shown-9
     take-local-requires
     same-length
     returns

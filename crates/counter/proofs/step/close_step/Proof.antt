@@ -37,8 +37,8 @@ close-step-spec =
     enum-known-call
     close-surface-requires
     from-closed-requires
+    returns
     enum-told
     shutdown-requires
     from-shutdown-requires
-    returns
     returns-2)

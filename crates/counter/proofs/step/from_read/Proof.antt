@@ -3,11 +3,11 @@ use borrow.Author.Needs.{needs}
 use Rattle.counter.proofs.step.from_read.Statement.{statement}
 use Rattle.counter.proofs.step.from_read.Tie as tie
 
-of-read-requires : tie.Need-of-read-requires
-of-read-requires c κs = search needs
+of-shown-requires : tie.Need-of-shown-requires
+of-shown-requires c κs = search needs
 
 returns : tie.Need-returns
-returns c = rw (c .of-read .ensures)
+returns c = rw (c .of-shown .ensures)
 
 pub from-read-spec : {M : Type 1} → statement M
-from-read-spec = tie.close (tie.spec of-read-requires returns)
+from-read-spec = tie.close (tie.spec of-shown-requires returns)

@@ -3,11 +3,14 @@ use borrow.Author.Needs.{needs}
 use Rattle.counter.proofs.step.from_registry.Statement.{statement}
 use Rattle.counter.proofs.step.from_registry.Tie as tie
 
-of-registry-requires : tie.Need-of-registry-requires
-of-registry-requires c κs = search needs
+of-shown-requires : tie.Need-of-shown-requires
+of-shown-requires c κs = search needs
+
+stepped-to-requires : tie.Need-stepped-to-requires
+stepped-to-requires c κs = search needs
 
 returns : tie.Need-returns
-returns c = rw (c .before .of-registry .ensures)
+returns c = rw (c .stepped-to .ensures, c .before .of-shown .ensures)
 
 pub from-registry-spec : {M : Type 1} → statement M
-from-registry-spec = tie.close (tie.spec of-registry-requires returns)
+from-registry-spec = tie.close (tie.spec of-shown-requires stepped-to-requires returns)

@@ -9,8 +9,11 @@ of-releases-requires c κs = search needs
 of-report-requires : tie.Need-of-report-requires
 of-report-requires c κs = search needs
 
+stepped-to-requires : tie.Need-stepped-to-requires
+stepped-to-requires c κs = search needs
+
 returns : tie.Need-returns
-returns c = rw (c .before .of-report .ensures, c .before .before .of-releases .ensures)
+returns c = rw (c .stepped-to .ensures, c .before .of-report .ensures, c .before .before .of-releases .ensures)
 
 pub from-released-spec : {M : Type 1} → statement M
-from-released-spec = tie.close (tie.spec of-releases-requires of-report-requires returns)
+from-released-spec = tie.close (tie.spec of-releases-requires of-report-requires stepped-to-requires returns)

@@ -6,8 +6,11 @@ use Rattle.counter.proofs.step.from_routed.Tie as tie
 of-report-requires : tie.Need-of-report-requires
 of-report-requires c κs = search needs
 
+stepped-to-requires : tie.Need-stepped-to-requires
+stepped-to-requires c κs = search needs
+
 returns : tie.Need-returns
-returns c = rw (c .before .before .of-report .ensures)
+returns c = rw (c .stepped-to .ensures, c .before .of-report .ensures)
 
 pub from-routed-spec : {M : Type 1} → statement M
-from-routed-spec = tie.close (tie.spec of-report-requires returns)
+from-routed-spec = tie.close (tie.spec of-report-requires stepped-to-requires returns)

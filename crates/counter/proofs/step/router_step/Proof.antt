@@ -50,12 +50,12 @@ router-step-spec =
     enum-known-call
     route-requires
     from-routed-requires
+    returns
     enum-known-call-2
     release-surface-requires
     from-released-requires
+    returns-2
     enum-told
     release-all-requires
     from-released-requires-2
-    returns
-    returns-2
     returns-3)

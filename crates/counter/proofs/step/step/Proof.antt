@@ -90,25 +90,25 @@ step-spec =
     (tie.spec
     enum-known-call
     panel-call-requires
+    returns
     enum-known-call-2
     input-call-requires
+    returns-2
     enum-known-call-3
     device-call-requires
+    returns-3
     enum-known-call-4
     shortcut-call-requires
+    returns-4
     enum-known-call-5
     arbitrate-call-requires
+    returns-5
     enum-known-call-6
     close-step-requires
+    returns-6
     enum-known-call-7
     router-step-requires
+    returns-7
     enum-known-call-8
     read-call-requires
-    returns
-    returns-2
-    returns-3
-    returns-4
-    returns-5
-    returns-6
-    returns-7
     returns-8)

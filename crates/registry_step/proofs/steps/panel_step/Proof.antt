@@ -115,32 +115,32 @@ panel-step-spec =
     enum-told
     create-window-requires
     of-created-requires
+    returns
     enum-known-call
     close-window-requires
     of-changed-requires
+    returns-2
     enum-known-call-2
     create-view-requires
     of-created-requires-2
+    returns-3
     enum-known-call-3
     update-view-metrics-requires
     of-metrics-requires
+    returns-4
     enum-known-call-4
     close-view-requires
     of-changed-requires-2
+    returns-5
     enum-known-call-5
     attach-surface-requires
     of-created-requires-3
+    returns-6
     enum-known-call-6
     update-surface-geometry-requires
     of-changed-requires-3
+    returns-7
     enum-known-call-7
     update-surface-input-policy-requires
     of-changed-requires-4
-    returns
-    returns-2
-    returns-3
-    returns-4
-    returns-5
-    returns-6
-    returns-7
     returns-8)

@@ -6,17 +6,11 @@ use Rattle.counter.proofs.answer.Answer.of_listing.Tie as tie
 from-composition-requires : tie.Need-from-composition-requires
 from-composition-requires c κs = search needs
 
-nothing-requires : tie.Need-nothing-requires
-nothing-requires c κs = search needs
-
 no-report-requires : tie.Need-no-report-requires
 no-report-requires c κs = search needs
 
-nothing-requires-2 : tie.Need-nothing-requires-2
-nothing-requires-2 c κs = search needs
-
 returns : tie.Need-returns
-returns c = rw (c .nothing2 .ensures, c .before .no-report .ensures, c .before .before .nothing .ensures, c .before .before .before .from-composition .ensures)
+returns c = rw (c .no-report .ensures, c .before .from-composition .ensures)
 
 pub of-listing-spec : {M : Type 1} → statement M
-of-listing-spec = tie.close (tie.spec from-composition-requires nothing-requires no-report-requires nothing-requires-2 returns)
+of-listing-spec = tie.close (tie.spec from-composition-requires no-report-requires returns)

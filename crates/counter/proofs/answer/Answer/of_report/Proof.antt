@@ -6,14 +6,8 @@ use Rattle.counter.proofs.answer.Answer.of_report.Tie as tie
 nothing-requires : tie.Need-nothing-requires
 nothing-requires c κs = search needs
 
-nothing-requires-2 : tie.Need-nothing-requires-2
-nothing-requires-2 c κs = search needs
-
-nothing-requires-3 : tie.Need-nothing-requires-3
-nothing-requires-3 c κs = search needs
-
 returns : tie.Need-returns
-returns c = rw (c .nothing3 .ensures, c .before .nothing2 .ensures, c .before .before .nothing .ensures)
+returns c = rw (c .nothing .ensures)
 
 pub of-report-spec : {M : Type 1} → statement M
-of-report-spec = tie.close (tie.spec nothing-requires nothing-requires-2 nothing-requires-3 returns)
+of-report-spec = tie.close (tie.spec nothing-requires returns)

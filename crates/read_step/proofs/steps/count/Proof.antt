@@ -1,7 +1,7 @@
 -- `count` meets its contract: each part is the read-out of its name.
 use borrow.Author.Needs.{needs}
-use Rattle.read_step.proofs.answer.count.Statement.{statement}
-use Rattle.read_step.proofs.answer.count.Tie as tie
+use Rattle.read_step.proofs.steps.count.Statement.{statement}
+use Rattle.read_step.proofs.steps.count.Tie as tie
 
 session-requires : tie.Need-session-requires
 session-requires c κs = search needs
