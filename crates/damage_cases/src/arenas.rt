@@ -34,12 +34,12 @@ fn ask_windows(name: &[u8], mut registry: CompositionRegistry, arena: Arena) {
 }
 
 fn ask_views(name: &[u8], mut registry: CompositionRegistry, arena: Arena) {
-    registry.views.arena = arena;
+    registry.views = registry.views.with_arena(arena);
     crate::ask(name, registry);
 }
 
 fn ask_panels(name: &[u8], mut registry: CompositionRegistry, arena: Arena) {
-    registry.surfaces.arena = arena;
+    registry.surfaces = registry.surfaces.with_arena(arena);
     crate::ask(name, registry);
 }
 
@@ -128,13 +128,14 @@ fn ask_panel_slots(registry: CompositionRegistry) {
 }
 
 fn ask_limits(name: &[u8], mut registry: CompositionRegistry, windows: u64, generation: u32) {
-    registry.limits = CompositionLimits {
+    let limits = CompositionLimits {
         max_windows: windows,
         max_views: 4,
         max_surfaces: 8,
         max_surfaces_per_view: 4,
         max_trace_entries: 8,
     };
+    registry.limits = limits;
     registry.first_generation = generation;
     crate::ask(name, registry);
 }

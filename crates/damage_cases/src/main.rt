@@ -17,14 +17,19 @@ use records::surface::SurfaceDescriptor;
 use records::surface::SurfaceInputPolicy;
 use records::surface::SurfaceKind;
 
-// A name, a space, the answer's number and a line feed.
-pub fn report(name: &[u8], outcome: Outcome) {
+// A name, a space, a number and a line feed.
+pub fn show(name: &[u8], n: u64) {
     let mut line = [0u8; 80];
     let named = answer_text::put::put_bytes(&mut line, 0, name);
     let spaced = answer_text::put::put_byte(&mut line, named, b' ');
-    let numbered = answer_text::put::put_u64(&mut line, spaced, records::error::number(outcome));
+    let numbered = answer_text::put::put_u64(&mut line, spaced, n);
     let ended = answer_text::put::put_byte(&mut line, numbered, b'\n');
     write_front(&line, ended);
+}
+
+// A name and the number of an answer.
+pub fn report(name: &[u8], outcome: Outcome) {
+    show(name, records::error::number(outcome));
 }
 
 // Writes the first `len` bytes of a line.

@@ -46,11 +46,13 @@ fn ask_capture(name: &[u8], registry: CompositionRegistry) {
 
 // What stands in places that no count reaches is read by nobody.
 fn ask_garbage(mut registry: CompositionRegistry) {
-    registry.windows.slots[40] = Slot {
+    let mut windows = registry.windows;
+    windows.slots[40] = Slot {
         generation: 0,
         filled: true,
     };
-    registry.windows.free[40] = 99;
+    windows.free[40] = 99;
+    registry.windows = windows;
     crate::ask(b"odd: garbage in unused places", registry);
 }
 

@@ -30,31 +30,22 @@ fn origin() -> InversePointArguments {
     InversePointArguments { transform, point }
 }
 
-// A name and a plain field of a damaged state.
-fn show(name: &[u8], n: u64) {
-    let mut line = [0u8; 80];
-    let named = answer_text::put::put_bytes(&mut line, 0, name);
-    let spaced = answer_text::put::put_byte(&mut line, named, b' ');
-    let numbered = answer_text::put::put_u64(&mut line, spaced, n);
-    let ended = answer_text::put::put_byte(&mut line, numbered, b'\n');
-    crate::write_front(&line, ended);
-}
-
+// The plain fields of a damaged registry.
 fn show_fields(registry: CompositionRegistry) {
     let session = composition_reads::session(registry);
-    show(b"plain: session, index", session.index as u64);
-    show(b"plain: session, generation", session.generation as u64);
-    show(b"plain: epoch", composition_reads::session_epoch(registry));
-    show(b"plain: revision", composition_reads::revision(registry));
-    show(
+    crate::show(b"plain: session, index", session.index as u64);
+    crate::show(b"plain: session, generation", session.generation as u64);
+    crate::show(b"plain: epoch", composition_reads::session_epoch(registry));
+    crate::show(b"plain: revision", composition_reads::revision(registry));
+    crate::show(
         b"plain: live windows",
         composition_reads::live_window_count(registry) as u64,
     );
-    show(
+    crate::show(
         b"plain: live views",
         composition_reads::live_view_count(registry) as u64,
     );
-    show(
+    crate::show(
         b"plain: live panels",
         composition_reads::live_surface_count(registry) as u64,
     );
@@ -113,7 +104,7 @@ fn ask_neither(registry: CompositionRegistry, router: PlatformInputRouter) {
         ReadCall::InversePoint(origin()),
     );
     show_fields(registry);
-    show(
+    crate::show(
         b"plain: open presses of a damaged router",
         router.active_binding_count() as u64,
     );

@@ -57,15 +57,29 @@ fn key_up() -> PlatformInputEvent {
     }
 }
 
+fn route(registry: CompositionRegistry, router: PlatformInputRouter) -> RouterOutcome {
+    let routed = input_route::route::route(registry, router, key_up());
+    routed.outcome
+}
+
+fn release_panel(router: PlatformInputRouter) -> RouterOutcome {
+    let released = router.release_surface(crate::first(0));
+    released.outcome
+}
+
+fn release_all(router: PlatformInputRouter) -> RouterOutcome {
+    let released = router.release_all();
+    released.outcome
+}
+
 // A name and the three answers, each behind a space.
 fn ask(name: &[u8], registry: CompositionRegistry, router: PlatformInputRouter) {
-    let routed = input_route::route::route(registry, router, key_up());
-    let of_panel = router.release_surface(crate::first(0));
-    let of_all = router.release_all();
-    let route = routed.outcome;
-    let panel = of_panel.outcome;
-    let all = of_all.outcome;
-    report(name, route, panel, all);
+    report(
+        name,
+        route(registry, router),
+        release_panel(router),
+        release_all(router),
+    );
 }
 
 fn report(name: &[u8], route: RouterOutcome, panel: RouterOutcome, all: RouterOutcome) {

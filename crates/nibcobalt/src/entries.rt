@@ -1,5 +1,5 @@
-// The exported functions. Each is a function of the modules beside this one with its states lent; what stands behind the references at
-// exit, and the answer, are that function's.
+// The exported functions. Each is a function of the modules beside this one with its states lent; what stands behind
+// the references at exit, and the answer, are that function's.
 ghost use mathlib.Core.Path.{_≡_};
 ghost use Rattle.nibcobalt.specs.Fresh.{startedMemory};
 ghost use Rattle.nibcobalt.specs.Calls.{called};

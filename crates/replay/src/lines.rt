@@ -1,7 +1,6 @@
 // The lines of a script's input, which arrives in chunks: each call of `next_answer` takes bytes up to the next line
-// feed or
-// the chunk's end and, where a line ends, answers it into a lent buffer. What is written and read is left to the
-// caller.
+// feed or the chunk's end and, where a line ends, answers it into a lent buffer. What is written and read is left to
+// the caller.
 use crate::answered::answer_line;
 use crate::session::Answered;
 use crate::session::Session;
@@ -22,8 +21,7 @@ ghost use Rattle.replay.specs.Turns.{servingOf, IsTurn};
 ghost use Rattle.replay.specs.Claims.{ReplayClaims};
 
 // After a turn: the session, how many bytes of the next line are there, where the chunk goes on, and how many bytes of
-// an
-// answer stand at the front of the buffer; whether a line ended, and how many bytes of it are in the line's buffer.
+// an answer stand at the front of the buffer; whether a line ended, and how many bytes of it are in the line's buffer.
 pub struct Turn {
     pub session: Session,
     pub len: usize,
@@ -46,8 +44,7 @@ pub fn first_session() -> Session
 }
 
 // Answers the line of which `len` bytes stand in the buffer, if it asks for an answer. The answers' buffer holds the
-// longest
-// line, so that the whole text of the answer stands at its front.
+// longest line, so that the whole text of the answer stands at its front.
 pub fn answer_bytes(session: Session, line: &[u8], len: usize, out: &mut [u8]) -> Answered
     requires { ⌜ 524288 ≤ length (now out) ⌝ }
     ensures { λ r. ⌜ _≡_ {A = List ℕ × Answered} (now (out .exit), r)

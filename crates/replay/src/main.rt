@@ -135,8 +135,7 @@ fn first_reading() -> Reading {
 }
 
 // Serves the input to its end. A proved loop has to end, so this one counts its turns down from a number that no run
-// uses up.
-// A last line that no line feed ends is a line too.
+// uses up. A last line that no line feed ends is a line too.
 fn serve(line: &mut [u8], out: &mut [u8])
     requires { ⌜ 524288 ≤ length (now out) ⌝ }
 {
@@ -157,8 +156,7 @@ fn serve(line: &mut [u8], out: &mut [u8])
 }
 
 // Every line fits the buffer: no answer is longer than 419,862 bytes (`line_lengths::line_length_claims`), and
-// `answer_bytes`
-// requires the room.
+// `answer_bytes` requires the room.
 fn main() {
     if os::arg_count() > 1 {
         messages::tell_usage();
