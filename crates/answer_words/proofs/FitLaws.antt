@@ -9,21 +9,22 @@ use lib.ListN.{length, length-append, length-map}
 use Rattle.lists.specs.Tables.{entriesOf, packed}
 use Rattle.geometry.specs.declared.transform.LocalPoint.{LocalPoint}
 use Rattle.geometry.specs.declared.transform.LocalPoint.the-variants.{At, Skipped}
-use Rattle.geometry.specs.declared.transform.Point.{Point}
-use Rattle.handles.specs.declared.GenerationalHandle.{GenerationalHandle}
+use Rattle.handles.specs.declared.OptionalHandle.{OptionalHandle}
 use Rattle.maps.specs.Captures.{captures}
 use Rattle.records.specs.Layers.{layers}
 use Rattle.records.specs.Traces.{deliveries}
 use Rattle.records.specs.Views.{viewAt}
-use Rattle.records.specs.declared.error.Outcome.{Outcome}
-use Rattle.records.specs.declared.error.Outcome.the-variants as composition
 use Rattle.release_lists.specs.Captures.{captureList}
 use Rattle.release_lists.specs.Releases.{releases}
 use Rattle.composition_panels.specs.declared.answer.OptionalMetrics.{OptionalMetrics}
 use Rattle.composition_panels.specs.declared.answer.OptionalMetrics.the-variants as metrics
+use Rattle.composition_panels.specs.Metrics.{updateViewMetrics}
 use Rattle.composition_input.specs.declared.answer.OptionalInputState.{OptionalInputState}
 use Rattle.composition_input.specs.declared.answer.OptionalInputState.the-variants as state
-use Rattle.composition_hits.specs.HitTest.{hitTestRefusal}
+use Rattle.composition_input.specs.Focus.{suspendViewInput}
+use Rattle.composition_hits.specs.HitTest.{viewHits}
+use Rattle.composition_shortcuts.specs.declared.register.Registrations.{Registrations}
+use Rattle.composition_state.specs.declared.registry.CompositionRegistry.{CompositionRegistry}
 use Rattle.input_events.specs.RouterErrors.{isRouterAccepted}
 use Rattle.input_events.specs.declared.error.RouterOutcome.{RouterOutcome}
 use Rattle.input_releases.specs.Answers.{noReport}
@@ -34,35 +35,36 @@ use Rattle.calls.specs.declared.call.Call.the-variants.{Panel, Input, ReleaseDe
 use Rattle.calls.specs.declared.call.Call.the-variants.{Read}
 use Rattle.calls.specs.declared.call.CloseCall.{CloseCall}
 use Rattle.calls.specs.declared.call.CloseCall.the-variants as close
+use Rattle.calls.specs.declared.call.InputCall.{InputCall}
+use Rattle.calls.specs.declared.call.InputCall.the-variants as input
 use Rattle.calls.specs.declared.call.Lists.{Lists}
-use Rattle.calls.specs.declared.call.ReadCall.{ReadCall}
-use Rattle.calls.specs.declared.call.ReadCall.the-variants as read
+use Rattle.calls.specs.declared.call.PanelCall.{PanelCall}
+use Rattle.calls.specs.declared.call.PanelCall.the-variants as panel
 use Rattle.calls.specs.declared.call.RouterCall.{RouterCall}
 use Rattle.calls.specs.declared.call.RouterCall.the-variants as router
+use Rattle.calls.specs.declared.call.ShortcutCall.{ShortcutCall}
+use Rattle.calls.specs.declared.call.ShortcutCall.the-variants as shortcut
+use Rattle.calls.specs.declared.shown.Shown.{Shown}
+use Rattle.calls.specs.declared.shown.Shown.the-variants as shown
 use Rattle.input_route.specs.Route.{routed}
-use Rattle.registry_step.specs.Steps.{panelStep, inputStep}
-use Rattle.read_step.specs.Reads.{hitTable, hitsIf, readStep}
-use Rattle.read_step.specs.declared.answer.Shown.{Shown}
-use Rattle.read_step.specs.declared.answer.Shown.the-variants as shown
-use Rattle.read_step.specs.declared.hits.HitNumbers.{HitNumbers}
+use Rattle.registry_step.specs.Steps.{metricsShown, stateShown, panelStep, inputStep, shortcutStep}
+use Rattle.read_step.specs.Reads.{readStep}
 use Rattle.counter.specs.Answers.{nothingListed, capturesListed, closeListed, shutdownListed, arbitrationAlone}
 use Rattle.counter.specs.Answers.{releasesAlone}
 use Rattle.counter.specs.Step.{closeStep, routerStep, stepped}
 use Rattle.counter.specs.declared.answer.Answer.{Answer}
-use Rattle.counter.specs.declared.answer.Made.{Made}
-use Rattle.counter.specs.declared.answer.ReadOut.{ReadOut}
 use Rattle.counter.specs.declared.step.Counter.{Counter}
-use Rattle.answer_numbers.specs.Groups.{captureNumbers}
+use Rattle.answer_numbers.specs.Groups.{handleNumbers, captureNumbers}
 use Rattle.answer_numbers.specs.Numbers.{Number, dumpedNumber}
 use Rattle.registry_dump.specs.Views.{describedNumbers}
-use Rattle.answer_more.specs.More.{metricsMore, stateMore, lossNumbers, eventMore, acceptedMore, moreOf}
-use Rattle.answer_more.specs.Shown.{oneNumber, localNumbers, shownMore}
+use Rattle.answer_more.specs.More.{lossNumbers, eventMore, acceptedMore, moreOf}
+use Rattle.answer_more.specs.Shown.{localNumbers, shownMore}
 use Rattle.answer_columns.specs.Named.{handleFor}
 use Rattle.answer_words.specs.Answers.{answerNumbers, shownNumbers, answerWords}
 use Rattle.answer_words.specs.Bounds.{Most, most, mostClosing, mostRouted, mostOf, Bounded, mostWords}
 use Rattle.answer_words.specs.Claims.{stepWords}
 use Rattle.answer_words.specs.Lengths.{Lengths}
-use Rattle.answer_words.proofs.EntryLaws.{each-long, list-fixed, packed-few}
+use Rattle.answer_words.proofs.EntryLaws.{list-fixed, packed-few}
 use Rattle.answer_words.proofs.SizeLaws.{state-size, descriptor-size, described-size, traces-size, front-size}
 use Rattle.answer_words.proofs.ListLaws.{layers-few, captures-few, released-few, arbitrated-few, hits-few}
 use Rattle.answer_words.proofs.CloseLaws.{closed-size, shutdown-size}
@@ -118,13 +120,50 @@ no-captures : length (entriesOf captureList (packed captureList [])) ≤ 0
 no-captures = packed-few captureList [] 0 (omega arith)
 
 -- ---- what calls show
-metrics-few : (m : OptionalMetrics) → length (shownNumbers (metricsMore m)) ≤ 13
-metrics-few metrics.None = omega arith
-metrics-few (metrics.Some m) = omega arith
+-- how many numbers a value is that is shown with a registry
+abbrev sizeOf : Shown → CompositionRegistry → ℕ
+sizeOf s r = length (shownNumbers (shownMore s r))
 
-state-few : (s : OptionalInputState) → length (shownNumbers (stateMore s)) ≤ 9
-state-few state.None = omega arith
-state-few (state.Some s) = omega (arith, state-size s)
+metrics-few : (m : OptionalMetrics) (after : CompositionRegistry) → sizeOf (metricsShown m) after ≤ 13
+metrics-few metrics.None after = omega arith
+metrics-few (metrics.Some m) after = omega arith
+
+panel-few : (r : CompositionRegistry) (c : PanelCall) (after : CompositionRegistry)
+    → sizeOf (panelStep r c .shown) after ≤ 13
+unfolding panelStep
+panel-few r panel.CreateWindow after = omega arith
+panel-few r (panel.CloseWindow w) after = omega arith
+panel-few r (panel.CreateView w) after = omega arith
+panel-few r (panel.UpdateViewMetrics a) after =
+    metrics-few (updateViewMetrics r (a .view) (a .update) (a .revision) .metrics) after
+panel-few r (panel.CloseView v) after = omega arith
+panel-few r (panel.AttachSurface d) after = omega arith
+panel-few r (panel.UpdateSurfaceGeometry a) after = omega arith
+panel-few r (panel.UpdateSurfaceInputPolicy a) after = omega arith
+
+state-few : (s : OptionalInputState) (after : CompositionRegistry) → sizeOf (stateShown s) after ≤ 9
+state-few state.None after = omega arith
+state-few (state.Some s) after = omega (arith, state-size s)
+
+input-few : (r : CompositionRegistry) (c : InputCall) (after : CompositionRegistry)
+    → sizeOf (inputStep r c .shown) after ≤ 9
+unfolding inputStep
+input-few r (input.SetFocus a) after = omega arith
+input-few r (input.CapturePointer a) after = omega arith
+input-few r (input.CapturePointerFor a) after = omega arith
+input-few r (input.ReleasePointer a) after = omega arith
+input-few r (input.ReleasePointerFor a) after = omega arith
+input-few r (input.BeginIme a) after = omega arith
+input-few r (input.EndIme a) after = omega arith
+input-few r (input.SuspendViewInput a) after =
+    state-few (suspendViewInput r (a .handle) (a .revision) .released) after
+
+shortcut-few : (r : CompositionRegistry) (c : ShortcutCall) (l : Registrations) (after : CompositionRegistry)
+    → sizeOf (shortcutStep r c l .shown) after ≤ 0
+unfolding shortcutStep
+shortcut-few r (shortcut.RegisterSet a) l after = omega arith
+shortcut-few r (shortcut.RegisterOne a) l after = omega arith
+shortcut-few r (shortcut.SetMask a) l after = omega arith
 
 loss-few : (s : OptionalInputState) → length (lossNumbers s) ≤ 10
 loss-few state.None = omega arith
@@ -141,49 +180,29 @@ local-few (At p) = omega arith
 local-few Skipped = omega arith
 
 module _ (k : Counter) (x : Lengths k) where
-  shown-few : (s : Shown) (h : HitNumbers) → length (entriesOf hitTable h) ≤ 32
-      → length (shownNumbers (shownMore s h (k .registry))) ≤ 3073
-  shown-few shown.Nothing h y = omega arith
-  shown-few (shown.Window w) h y = omega arith
-  shown-few (shown.Metrics m) h y = omega arith
-  shown-few (shown.InputState s) h y = omega (arith, state-size s)
-  shown-few (shown.Captures v) h y =
+  shown-few : (s : Shown) → sizeOf s (k .registry) ≤ 3073
+  shown-few shown.Nothing = omega arith
+  shown-few (shown.Window w) = omega arith
+  shown-few (shown.Metrics m) = omega arith
+  shown-few (shown.InputState s) = omega (arith, state-size s)
+  shown-few (shown.Captures v) =
       let l = entriesOf captures (viewAt (k .registry .views) v .«pointer_captures») in
       let few = captures-few (k .registry .views) (x .views) v in
       omega (arith, list-fixed captureNumbers 5 32 l few (λ e. omega arith))
-  shown-few (shown.Descriptor d) h y = omega (arith, descriptor-size d)
-  shown-few (shown.Layers v) h y =
+  shown-few (shown.Descriptor d) = omega (arith, descriptor-size d)
+  shown-few (shown.Layers v) =
       let l = entriesOf layers (viewAt (k .registry .views) v .surfaces) in
       let few = layers-few (k .registry .views) (x .views) v in
       let surfaces = k .registry .surfaces in
       omega (arith, list-fixed (describedNumbers surfaces) 26 16 l few (described-size surfaces))
-  shown-few shown.Traces h y = traces-size (k .registry .traces) (x .traces) (x .each-trace)
-  shown-few (shown.Counts c) h y = omega arith
-  shown-few (shown.BindingCount n) h y = omega arith
-  shown-few shown.Hits h y = omega (arith, each-long oneNumber 1 (λ n. refl) (entriesOf hitTable h))
-  shown-few (shown.Local p) h y = omega (arith, local-few p)
-
-  no-hits : length (entriesOf hitTable (packed hitTable [])) ≤ 32
-  no-hits = packed-few hitTable [] 32 (omega arith)
-
-  found-few : (o : Outcome) (view : GenerationalHandle) (p : Point)
-      → length (entriesOf hitTable (hitsIf o (k .registry) view p)) ≤ 32
-  found-few composition.Accepted view p = packed-few hitTable _ 32 (hits-few (k .registry) (x .views) view p 32)
-  found-few (composition.Refused e) view p = no-hits
-
-  read-few : (c : ReadCall) → length (entriesOf hitTable (readStep (k .registry) (k .router) c .hits)) ≤ 32
-  unfolding readStep
-  read-few (read.ViewWindow v) = no-hits
-  read-few (read.ViewMetrics v) = no-hits
-  read-few (read.ViewInputState v) = no-hits
-  read-few (read.ViewPointerCaptures v) = no-hits
-  read-few (read.SurfaceDescriptor s) = no-hits
-  read-few (read.ViewLayers v) = no-hits
-  read-few read.Traces = no-hits
-  read-few read.Counts = no-hits
-  read-few read.ActiveBindingCount = no-hits
-  read-few (read.HitTestStack a) = found-few (hitTestRefusal (k .registry) (a .view) (a .length)) (a .view) (a .point)
-  read-few (read.InversePoint a) = no-hits
+  shown-few shown.Traces = traces-size (k .registry .traces) (x .traces) (x .each-trace)
+  shown-few (shown.Counts c) = omega arith
+  shown-few (shown.BindingCount n) = omega arith
+  shown-few (shown.Hits a) =
+      let l = viewHits (k .registry) (a .view) (a .point) in
+      let few = hits-few (k .registry) (x .views) (a .view) (a .point) in
+      omega (arith, list-fixed handleNumbers 2 16 l few (λ h. omega arith))
+  shown-few (shown.Local p) = omega (arith, local-few p)
 
   -- ---- call by call
   close-bounded : (c : CloseCall) (l : Lists)
@@ -228,31 +247,31 @@ module _ (k : Counter) (x : Lengths k) where
   }
 
   -- an answer that lists nothing
-  abbrev blank : RouterOutcome → Made → ReadOut → Answer
-  blank o m out = record { outcome = o; made = m; report = noReport; listed = nothingListed; read = out }
+  abbrev blank : RouterOutcome → OptionalHandle → Shown → Answer
+  blank o h s = record { outcome = o; handle = h; shown = s; report = noReport; listed = nothingListed }
 
-  quiet : (n : ℕ) (c : Call) (o : RouterOutcome) (m : Made) (out : ReadOut) (after : Counter)
-      → length (shownNumbers (acceptedMore c (blank o m out) after)) ≤ n
-      → Bounded (most 0 0 0 n) c (blank o m out) after
+  quiet : (n : ℕ) (c : Call) (o : RouterOutcome) (h : OptionalHandle) (s : Shown) (after : Counter)
+      → length (shownNumbers (acceptedMore c (blank o h s) after)) ≤ n
+      → Bounded (most 0 0 0 n) c (blank o h s) after
   unfolding nothingListed
-  quiet n c o m out after h = record {
+  quiet n c o h s after few = record {
     delivered = no-deliveries;
     released = no-releases;
     captured = no-captures;
-    shown = more-few c (blank o m out) after n h;
+    shown = more-few c (blank o h s) after n few;
   }
 
   pub bounded : (c : Call) (l : Lists) → Bounded (mostOf c) c (stepped k c l .answer) (stepped k c l .counter)
   unfolding stepped nothingListed capturesListed arbitrationAlone
-  bounded (Panel c) l = quiet 13 (Panel c) _ _ _ _ (metrics-few (panelStep (k .registry) c .metrics))
-  bounded (Input c) l = quiet 9 (Input c) _ _ _ _ (state-few (inputStep (k .registry) c .«input_state»))
+  bounded (Panel c) l = quiet 13 (Panel c) _ _ _ _ (panel-few (k .registry) c _)
+  bounded (Input c) l = quiet 9 (Input c) _ _ _ _ (input-few (k .registry) c _)
   bounded (ReleaseDevice a) l = record {
     delivered = no-deliveries;
     released = no-releases;
     captured = released-few (k .registry) (x .views) (a .device) (a .«device_generation»);
     shown = more-few (ReleaseDevice a) _ _ 0 nothing-shown;
   }
-  bounded (Shortcut c) l = quiet 0 (Shortcut c) _ _ _ _ nothing-shown
+  bounded (Shortcut c) l = quiet 0 (Shortcut c) _ _ _ _ (shortcut-few (k .registry) c (l .registrations) _)
   bounded (Arbitrate a) l = record {
     delivered = arbitrated-few (k .registry) (x .views) (a .view) (a .event) (l .hits);
     released = no-releases;
@@ -262,7 +281,7 @@ module _ (k : Counter) (x : Lengths k) where
   bounded (Close c) l = close-bounded c l
   bounded (Router c) l = router-bounded c l
   bounded (Read c) l =
-      quiet 3073 (Read c) _ _ _ _ (shown-few (readStep (k .registry) (k .router) c .shown) _ (read-few c))
+      quiet 3073 (Read c) _ _ _ _ (shown-few (readStep (k .registry) (k .router) c .shown))
 
   pub fits : (c : Call) (l : Lists) → length (stepWords k c l) ≤ 4608
   fits c l =

@@ -18,8 +18,6 @@ use Rattle.records.specs.Errors.{isAccepted}
 use Rattle.records.specs.Layers.{layers}
 use Rattle.records.specs.Traces.{deliveries}
 use Rattle.records.specs.Views.{noView, viewAt, viewSlots}
-use Rattle.records.specs.declared.error.Outcome.{Outcome}
-use Rattle.records.specs.declared.error.Outcome.the-variants.{Accepted, Refused}
 use Rattle.records.specs.declared.trace.ArbitrationEvent.{ArbitrationEvent}
 use Rattle.records.specs.declared.trace.Deliveries.{Deliveries}
 use Rattle.records.specs.declared.trace.Hits.{Hits}
@@ -30,8 +28,7 @@ use Rattle.composition_state.specs.declared.registry.CompositionRegistry.{Compo
 use Rattle.composition_state.specs.Damage.{viewHandle}
 use Rattle.composition_input.specs.Captures.{isOfDevice, takenAt, deviceCaptures, deviceSettled}
 use Rattle.composition_input.specs.Captures.{releaseDevicePointerCaptures}
-use Rattle.composition_hits.specs.Buffer.{numbersOf}
-use Rattle.composition_hits.specs.HitTest.{isLayerHit, hitsAmong, viewHits, hitTestRefusal, foundNumbers, hitNumbers}
+use Rattle.composition_hits.specs.HitTest.{isLayerHit, hitsAmong, viewHits}
 use Rattle.composition_arbitration.specs.declared.walk.Verdict.{Verdict}
 use Rattle.composition_arbitration.specs.declared.walk.Walked.{Walked}
 use Rattle.composition_arbitration.specs.Arbitration.{alone, orAlone, walkIn, arbitration, ownHits, resolution}
@@ -119,17 +116,9 @@ module _ (r : CompositionRegistry) (x : All ViewLengths (r .views .records)) whe
       (or-few (resolution r view event .surface) (walkIn r view event own) (walk-in-few view event own))
 
   -- ---- a hit test
-  numbers-long : (l : List GenerationalHandle) → length (numbersOf l) ≡ 2 * length l
-  numbers-long [] = omega arith
-  numbers-long (h ∷ l) = omega (arith, numbers-long l)
-
-  found-few : (o : Outcome) (l : List GenerationalHandle) → length l ≤ 16 → length (foundNumbers o l) ≤ 32
-  found-few Accepted l h = omega (arith, numbers-long l)
-  found-few (Refused e) l h = omega arith
-
-  pub hits-few : (view : GenerationalHandle) (p : Point) (n : ℕ) → length (hitNumbers r view p n) ≤ 32
-  unfolding hitNumbers viewHits hitsAmong
-  hits-few view p n =
+  pub hits-few : (view : GenerationalHandle) (p : Point) → length (viewHits r view p) ≤ 16
+  unfolding viewHits hitsAmong
+  hits-few view p =
       let l = entriesOf layers (viewAt (r .views) view .surfaces) in
       let hit = length-keep (isLayerHit (r .surfaces) p) (reverse l) in
-      found-few (hitTestRefusal r view n) _ (omega (arith, hit, length-reverse l, layers-few (r .views) x view))
+      omega (arith, hit, length-reverse l, layers-few (r .views) x view)

@@ -56,12 +56,10 @@ pub fn put_answer(out: &mut [u8], call: Call, answer: Answer, counter: Counter) 
     ensures { λ r. ⌜ _≡_ {A = List ℕ × ℕ} (now (out .exit), r) (answerPlaced call answer counter (now (out .entry))) ⌝ }
 {
     let outcome = answer.outcome;
-    let made = answer.made;
-    let handle = made.handle;
+    let handle = answer.handle;
     let report = answer.report;
     let kind = report.kind;
-    let read = answer.read;
-    let shown = read.shown;
+    let shown = answer.shown;
     let named = named_handle(outcome, call, handle, kind, shown);
     let end = take_answer(
         out,

@@ -29,7 +29,7 @@ returns : tie.Need-returns
 unfolding answerWords answerPlaced
 returns c =
     let early = c .before .before .before .before .before .before in
-    let a = early .before .before .before .before .before .before .before .before .args in
+    let a = early .before .before .before .before .before .before .args in
     let more = moreOf (a .call) (a .answer) (a .counter) in
     let own = rw (early .before .before .before .named-handle .ensures) at (early .take-answer .ensures) in
     c .before .before .put-more .ensures
