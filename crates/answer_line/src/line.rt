@@ -24,12 +24,10 @@ pub fn put_answer(out: &mut [u8], calls: u64, call: Call, answer: Answer, counte
         (answerTaken calls call answer counter (now (out .entry))) ⌝ }
 {
     let outcome = answer.outcome;
-    let made = answer.made;
-    let handle = made.handle;
+    let handle = answer.handle;
     let report = answer.report;
     let kind = report.kind;
-    let read = answer.read;
-    let shown = read.shown;
+    let shown = answer.shown;
     let a = put_columns(out, 0, calls, counter.registry.revision, answer);
     let b = put_named(out, a, named_handle(outcome, call, handle, kind, shown));
     put_more(out, b, SinkKind::Column, call, answer, counter)

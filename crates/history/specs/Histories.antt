@@ -41,7 +41,7 @@ call c x = stepped c (x .call) (x .lists)
 abbrev pub toldOf : Answer → Told
 toldOf a = record {
   number = routerNumberOf (a .outcome);
-  handle = a .made .handle;
+  handle = a .handle;
   consumer = a .report .arbitration .«consumed_by»;
   deliveries = entriesOf deliveries (a .report .arbitration .deliveries);
 }

@@ -26,7 +26,7 @@ same-length c = search needs
 
 returns : tie.Need-returns
 returns c =
-    let a = c .before .before .before .before .before .before .before .before .before .before .before .before .before .before .before .before .before .args in
+    let a = c .before .before .before .before .before .before .before .before .before .before .before .before .before .before .before .args in
     c .before .before .put-more .ensures ∙ ap (morePlaced Column (moreOf (a .call) (a .answer) (a .counter)))
     ((rw (c .before .before .before .before .before .before .before .named-handle .ensures) at (c .before .before .before .before .before .before .put-named .ensures)) ∙ ap (putAll (namedPieces (handleFor (a .call) (a .answer)))) (c .before .before .before .before .before .before .before .before .before .before .before .put-columns .ensures))
 
