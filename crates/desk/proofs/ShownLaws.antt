@@ -4,9 +4,9 @@ use mathlib.Core.List.{List, [], _∷_}
 use mathlib.Core.Path.{_≡_, refl}
 use types.Run.{OneOf, miss}
 use denote.Enum.Declared as Declared
-use Rattle.read_step.specs.declared.answer.Shown.{Shown}
-use Rattle.read_step.specs.declared.answer.Shown.the-variants as shown
-use Rattle.read_step.proofs.answer.Shown as S
+use Rattle.calls.specs.declared.shown.Shown.{Shown}
+use Rattle.calls.specs.declared.shown.Shown.the-variants as shown
+use Rattle.calls.proofs.shown.Shown as S
 use Rattle.desk.specs.Opening.{revisionShown}
 
 abbrev otherKinds : List ℕ
@@ -24,5 +24,5 @@ no-metrics (shown.Layers v) h = refl
 no-metrics shown.Traces h = refl
 no-metrics (shown.Counts n) h = refl
 no-metrics (shown.BindingCount n) h = refl
-no-metrics shown.Hits h = refl
+no-metrics (shown.Hits a) h = refl
 no-metrics (shown.Local p) h = refl

@@ -22,8 +22,8 @@ use Rattle.calls.specs.declared.call.Lists.{Lists}
 use Rattle.calls.specs.declared.call.PanelCall.{PanelCall}
 use Rattle.calls.specs.declared.call.PanelCall.the-variants.{CreateWindow, CreateView, AttachSurface}
 use Rattle.calls.specs.declared.call.ReadCall.the-variants.{ViewMetrics}
-use Rattle.read_step.specs.declared.answer.Shown.{Shown}
-use Rattle.read_step.specs.declared.answer.Shown.the-variants as shown
+use Rattle.calls.specs.declared.shown.Shown.{Shown}
+use Rattle.calls.specs.declared.shown.Shown.the-variants as shown
 use Rattle.counter.specs.declared.step.Counter.{Counter}
 use Rattle.counter.specs.Step.{stepped}
 use Rattle.desk.specs.declared.opening.Created.{Created}
@@ -59,7 +59,7 @@ handleFrom (Some h) = h
 unfoldable pub createdBy : Counter → PanelCall → Created
 createdBy c call =
     let s = stepped c (Panel call) noLists in
-    record { handle = handleFrom (s .answer .made .handle); counter = s .counter }
+    record { handle = handleFrom (s .answer .handle); counter = s .counter }
 
 -- a panel with no bounds, the identity matrix and hit testing on
 unfoldable pub attached : Counter → GenerationalHandle → ℤ → SurfaceInputPolicy → Created
@@ -86,11 +86,11 @@ revisionShown (shown.Layers h) = 0
 revisionShown shown.Traces = 0
 revisionShown (shown.Counts n) = 0
 revisionShown (shown.BindingCount n) = 0
-revisionShown shown.Hits = 0
+revisionShown (shown.Hits a) = 0
 revisionShown (shown.Local p) = 0
 
 unfoldable pub metricsRevision : Counter → GenerationalHandle → ℕ
-metricsRevision c view = revisionShown (stepped c (Read (ViewMetrics view)) noLists .answer .read .shown)
+metricsRevision c view = revisionShown (stepped c (Read (ViewMetrics view)) noLists .answer .shown)
 
 -- one window, one view
 unfoldable pub viewOpened : Counter → Viewed

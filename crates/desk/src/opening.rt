@@ -6,6 +6,7 @@ use calls::call::Call;
 use calls::call::Lists;
 use calls::call::PanelCall;
 use calls::call::ReadCall;
+use calls::shown::Shown;
 use composition_shortcuts::register::Registrations;
 use composition_state::registry::CompositionLimits;
 use composition_state::registry::CompositionRegistry;
@@ -16,7 +17,6 @@ use geometry::surface::SurfaceGeometry;
 use handles::GenerationalHandle;
 use handles::OptionalHandle;
 use input_router::router::PlatformInputRouter;
-use read_step::answer::Shown;
 use records::shortcut::ShortcutScope;
 use records::shortcut::SurfaceShortcutRegistration;
 use records::surface::SurfaceDescriptor;
@@ -95,10 +95,9 @@ fn start() -> Counter
 
 // A refused call has made nothing: every later call then refuses the handle of no slot.
 fn handle_from(answer: Answer) -> GenerationalHandle
-    ensures { λ r. ⌜ r ≡ handleFrom (answer .made .handle) ⌝ }
+    ensures { λ r. ⌜ r ≡ handleFrom (answer .handle) ⌝ }
 {
-    let made = answer.made;
-    let handle = made.handle;
+    let handle = answer.handle;
     match handle {
         OptionalHandle::None => GenerationalHandle::INVALID,
         OptionalHandle::Some(issued) => issued,
@@ -138,10 +137,9 @@ fn attach(
 }
 
 fn revision_shown(answer: Answer) -> u64
-    ensures { λ r. ⌜ r ≡ revisionShown (answer .read .shown) ⌝ }
+    ensures { λ r. ⌜ r ≡ revisionShown (answer .shown) ⌝ }
 {
-    let read = answer.read;
-    let shown = read.shown;
+    let shown = answer.shown;
     if let Shown::Metrics(metrics) = shown {
         return metrics.revision;
     }

@@ -13,7 +13,7 @@ unfolding revisionShown
 returns c = rw (c .before .shown .given .1)
 
 returns-2 : tie.Need-returns-2
-returns-2 c = no-metrics (c .before .before .args .answer .read .shown) (c .match .keys2)
+returns-2 c = no-metrics (c .before .args .answer .shown) (c .match .keys2)
 
 pub revision-shown-spec : {M : Type 1} → statement M
 revision-shown-spec = tie.close (tie.spec enum-known-shown returns returns-2)
