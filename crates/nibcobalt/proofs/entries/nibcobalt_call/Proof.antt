@@ -23,4 +23,4 @@ nibcobalt-call-spec 𝓤 H 𝓜 𝓖 𝓡 =
     entry Memory.the-type Message.the-type Status.the-type MemoryLaws.the-laws MessageLaws.the-laws StatusLaws.the-laws MemoryLaws.the-plain MessageLaws.the-plain StatusLaws.the-plain
     MemoryLaws.lowers MessageLaws.lowers StatusLaws.lowers (Done.the-type .name) Called (λ r. r .status) (λ r. r .memory) (λ r. r .message) (Done.the-type .to-one)
     [] (λ g h l x. called g h l)
-    𝓤 H 𝓜 𝓖 𝓡 code.env own.name callee.name (pointee (Memory.the-row .written)) (pointee (Message.the-row .written)) callee.routine (code.unfolded 𝓤 H 𝓜 𝓡) code.calls-host-calls·any-call·call (callee-met.met 𝓤 H 𝓜 𝓖 𝓡)
+    𝓤 H 𝓜 𝓖 𝓡 code.env own.name callee.name (pointee (Memory.the-row .written)) (pointee (Message.the-row .written)) callee.routine (code.unfolded 𝓤 H 𝓜 𝓡) code.calls-nibcobalt·any-call·call (callee-met.met 𝓤 H 𝓜 𝓖 𝓡)

@@ -23,4 +23,4 @@ nibcobalt-start-counter-spec 𝓤 H 𝓜 𝓖 𝓡 =
     entry Memory.the-type Start.the-type Status.the-type MemoryLaws.the-laws StartLaws.the-laws StatusLaws.the-laws MemoryLaws.the-plain StartLaws.the-plain StatusLaws.the-plain
     MemoryLaws.lowers StartLaws.lowers StatusLaws.lowers (Done.the-type .name) Started (λ r. r .status) (λ r. r .memory) (λ r. r .start) (Done.the-type .to-one)
     [] (λ g h x. startedMemory g h)
-    𝓤 H 𝓜 𝓖 𝓡 code.env own.name callee.name (pointee (Memory.the-row .written)) (pointee (Start.the-row .written)) callee.routine (code.unfolded 𝓤 H 𝓜 𝓡) code.calls-host-calls·fresh·start-counter (callee-met.met 𝓤 H 𝓜 𝓖 𝓡)
+    𝓤 H 𝓜 𝓖 𝓡 code.env own.name callee.name (pointee (Memory.the-row .written)) (pointee (Start.the-row .written)) callee.routine (code.unfolded 𝓤 H 𝓜 𝓡) code.calls-nibcobalt·fresh·start-counter (callee-met.met 𝓤 H 𝓜 𝓖 𝓡)
