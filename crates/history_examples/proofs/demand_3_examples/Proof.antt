@@ -61,7 +61,7 @@ use Rattle.input_route.specs.Checks.{routeRefusal}
 use Rattle.input_route.specs.Route.{hitsFor, routedArbitration, routedPayload, routed}
 use Rattle.registry_step.specs.Steps.{panelStep, inputStep, shortcutStep}
 use Rattle.read_step.specs.Reads.{readStep}
-use Rattle.counter.specs.Answers.{nothingListed, capturesListed, closeListed, shutdownListed, nothingRead, arbitrationAlone, releasesAlone}
+use Rattle.counter.specs.Answers.{nothingListed, capturesListed, closeListed, shutdownListed, arbitrationAlone, releasesAlone}
 use Rattle.counter.specs.Step.{closeStep, routerStep, stepped}
 use Rattle.book.specs.Book.{homeOf, withCapture, withoutCaptures, withPress, withoutPress, withoutPresses}
 use Rattle.book.specs.Notes.{payloadChange, routerChange, change, changed, notedPanel, notedInput, notedClose, registered, noted, note}
@@ -103,7 +103,7 @@ unlisted s before x y more q o lost =
     none-is-some (sym q ∙ lost .listed (history before (fresh s)) (entryOf x (call (after before (fresh s)) x .answer)) (history [] (call (after before (fresh s)) x .counter)) (entry-there before x [] (fresh s)) ∙ o)
 
 returns : tie.Need-returns
-unfolding allBelow countBelow iterBelow entriesOf packed pushed emptyArena lookupOf hasRoom allocated released noneExhausted handlesBelow countsWithin occurrencesOf wellFormed isValidMetrics isHit isValidGeometry solved layerLt recordsOf arenasSound tracesSound layersSound viewSound viewsSound isSound advanced freshRegistry updateViewMetrics attached attachSurface updateSurfaceGeometry updateSurfaceInputPolicy createWindow isWindowInUse closeWindow createView closeView byPanel inPanelOrder addCaptures capturePointerFor releasePointerFor releasePointer deviceCaptures deviceCleared releaseDevicePointerCaptures setFocus beginIme endIme suspendViewInput candidateOf isLess greatest ownViewRefusal registerSurfaceSystemShortcutSet resolveSystemShortcut sharesBit counts ownHits resolution alone walkIn concluded arbitrated decided verdictAt untilConsumed consumerOf walkOf chosen isTargeted traced detached freed closeSettled closeSurface hadCapture topmost detachedView closeReport layerClosed layersClosed viewClosed wholeViewClosed viewsClosed windowClosed windowsClosed shutDown shutdownOf over written isLayerHit hitsAmong viewHits hitNumbers hitTest bufferAfter arbitrationEventIn needsHits pointOf isLoss isDisconnect payloadRefusal headerRefusal eventRefusal pressIn effectIn receiverOf isRouterSound releaseSurface releaseAll releaseView routedDisconnect suspendedLoss routedLoss routeRefusal hitsFor routedArbitration routedPayload routed panelStep inputStep shortcutStep readStep nothingListed capturesListed closeListed shutdownListed nothingRead arbitrationAlone releasesAlone closeStep routerStep stepped homeOf withCapture withoutCaptures withPress withoutPress withoutPresses payloadChange routerChange change changed notedPanel notedInput notedClose registered noted note payloadConcern routerConcern concern panelPut panelsOf panelByPanel concernedPresses concernedCaptures thenCaptures owedPresses owedCaptures owed withoutConcerned after history bookAfter isReleasedNext areReleased books
+unfolding allBelow countBelow iterBelow entriesOf packed pushed emptyArena lookupOf hasRoom allocated released noneExhausted handlesBelow countsWithin occurrencesOf wellFormed isValidMetrics isHit isValidGeometry solved layerLt recordsOf arenasSound tracesSound layersSound viewSound viewsSound isSound advanced freshRegistry updateViewMetrics attached attachSurface updateSurfaceGeometry updateSurfaceInputPolicy createWindow isWindowInUse closeWindow createView closeView byPanel inPanelOrder addCaptures capturePointerFor releasePointerFor releasePointer deviceCaptures deviceCleared releaseDevicePointerCaptures setFocus beginIme endIme suspendViewInput candidateOf isLess greatest ownViewRefusal registerSurfaceSystemShortcutSet resolveSystemShortcut sharesBit counts ownHits resolution alone walkIn concluded arbitrated decided verdictAt untilConsumed consumerOf walkOf chosen isTargeted traced detached freed closeSettled closeSurface hadCapture topmost detachedView closeReport layerClosed layersClosed viewClosed wholeViewClosed viewsClosed windowClosed windowsClosed shutDown shutdownOf over written isLayerHit hitsAmong viewHits hitNumbers hitTest bufferAfter arbitrationEventIn needsHits pointOf isLoss isDisconnect payloadRefusal headerRefusal eventRefusal pressIn effectIn receiverOf isRouterSound releaseSurface releaseAll releaseView routedDisconnect suspendedLoss routedLoss routeRefusal hitsFor routedArbitration routedPayload routed panelStep inputStep shortcutStep readStep nothingListed capturesListed closeListed shutdownListed arbitrationAlone releasesAlone closeStep routerStep stepped homeOf withCapture withoutCaptures withPress withoutPress withoutPresses payloadChange routerChange change changed notedPanel notedInput notedClose registered noted note payloadConcern routerConcern concern panelPut panelsOf panelByPanel concernedPresses concernedCaptures thenCaptures owedPresses owedCaptures owed withoutConcerned after history bookAfter isReleasedNext areReleased books
 returns c = record {
   desk = record {
     accepts = record { registry = refl; router = refl };
