@@ -10,7 +10,7 @@ use Rattle.script.specs.declared.verb.StepVerb.{StepVerb}
 use Rattle.script.specs.declared.verb.StepVerb.the-variants.{Panel, Input, ReleaseDevicePointerCaptures, RegisterSurfaceSystemShortcutSet, Arbitrate, Close, Router, Read}
 use Rattle.script.specs.declared.verb.Verb.{Verb}
 use Rattle.script.specs.declared.verb.Verb.the-variants.{Unknown, Session, Step}
-use Rattle.script_fields.specs.ListFields.{hitsAt, registrationsAt}
+use Rattle.script_calls.specs.ListFields.{hitsAt, registrationsAt}
 
 -- no hits and no registrations
 abbrev pub noLists : Lists

@@ -4,12 +4,10 @@ use mathlib.Core.Bool.{_&&_}
 use Rattle.script.specs.declared.line.Fields.{Fields}
 use Rattle.script.specs.declared.verb.SessionVerb.{SessionVerb}
 use Rattle.script.specs.declared.verb.SessionVerb.the-variants as verb
-use Rattle.script_fields.specs.Groups.{u32At, u64At, handleAt, limitsAt}
-use Rattle.script_fields.specs.Shapes.{flagAt}
+use Rattle.script_calls.specs.Groups.{has, flagAt, u32At, u64At, handleAt, limitsAt}
 use Rattle.script_calls.specs.declared.script_call.SessionCall.the-variants.{Digest, New, Router, State, RouterState}
 use Rattle.script_calls.specs.declared.sessions.AskedSession.{AskedSession}
 use Rattle.script_calls.specs.declared.sessions.StartField.{StartField}
-use Rattle.script_calls.specs.Arguments.{has}
 
 -- f: whether the digests stand
 abbrev pub digestIn : Fields → AskedSession

@@ -1,10 +1,8 @@
 // A line's verb and numbers as a call with its arguments.
-pub mod arguments;
-pub mod events;
-pub mod inputs;
+pub mod groups;
 pub mod line_lists;
-pub mod panels;
+pub mod list_fields;
 pub mod read;
-pub mod reads;
+pub mod rows;
 pub mod script_call;
 pub mod sessions;

@@ -4,6 +4,8 @@ ghost use mathlib.Core.Path.{_≡_};
 ghost use Rattle.lists.specs.Tables.{packed};
 ghost use Rattle.composition_shortcuts.specs.Register.{registrations as given};
 ghost use Rattle.script_calls.specs.LineLists.{noLists, ofRegister, ofArbitrate, listsOf, listsBeside};
+use crate::list_fields::hits_field;
+use crate::list_fields::registrations_field;
 use calls::call::Lists;
 use composition_shortcuts::register::Registrations;
 use records::shortcut::ShortcutScope;
@@ -13,8 +15,6 @@ use script::line::Fields;
 use script::line::Line;
 use script::verb::StepVerb;
 use script::verb::Verb;
-use script_fields::list_fields::hits_field;
-use script_fields::list_fields::registrations_field;
 
 fn no_registrations() -> Registrations
     ensures { λ r. ⌜ r ≡ packed given [] ⌝ }

@@ -1,16 +1,16 @@
 // The script's own calls: digests, a new registry, a new router, dumps.
 ghost use mathlib.Core.Path.{_≡_};
 ghost use Rattle.script_calls.specs.Sessions.{startAt, digestIn, newIn, newAtIn, routerIn, sessionIn};
+use crate::groups::flag_field;
+use crate::groups::handle_field;
+use crate::groups::limits_field;
+use crate::groups::u32_field;
+use crate::groups::u64_field;
 use crate::script_call::SessionCall;
 use crate::script_call::Start;
 use lists::both;
 use script::line::Fields;
 use script::verb::SessionVerb;
-use script_fields::geometry_fields::flag_field;
-use script_fields::groups::handle_field;
-use script_fields::groups::limits_field;
-use script_fields::groups::u32_field;
-use script_fields::groups::u64_field;
 
 pub struct StartField {
     pub given: Start,

@@ -18,11 +18,8 @@ session-if-requires c κs = search needs
 enum-known-verb-2 : tie.Need-enum-known-verb-2
 enum-known-verb-2 c = search needs
 
-asked-step-requires : tie.Need-asked-step-requires
-asked-step-requires c κs = search needs
-
-step-if-requires : tie.Need-step-if-requires
-step-if-requires c κs = search needs
+step-call-requires : tie.Need-step-call-requires
+step-call-requires c κs = search needs
 
 returns : tie.Need-returns
 returns c = search needs
@@ -31,7 +28,7 @@ returns-2 : tie.Need-returns-2
 returns-2 c = rw (c .session-if .ensures, c .before .asked-session .ensures, c .before .before .before .verb .given .1)
 
 returns-3 : tie.Need-returns-3
-returns-3 c = rw (c .step-if .ensures, c .before .asked-step .ensures, c .before .before .before .verb2 .given .1)
+returns-3 c = rw (c .step-call .ensures, c .before .before .verb2 .given .1)
 
 pub read-fields-spec : {M : Type 1} → statement M
 read-fields-spec =
@@ -42,8 +39,7 @@ read-fields-spec =
     asked-session-requires
     session-if-requires
     enum-known-verb-2
-    asked-step-requires
-    step-if-requires
+    step-call-requires
     returns
     returns-2
     returns-3)

@@ -1,2 +1,0 @@
-pub mod ListFieldLaws
-pub mod ListClaimLaws

@@ -1,9 +1,0 @@
-pub mod Groups
-pub mod Shapes
-pub mod ListFields
-pub mod Events
-pub mod Choices
-pub mod Headers
-pub mod Payloads
-pub mod Inputs
-pub mod ListClaims
