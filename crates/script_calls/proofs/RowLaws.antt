@@ -24,7 +24,6 @@ and-true true = refl
 and-true false = refl
 
 module _ (t : List ℕ) (fs : Fields) (i : ℕ) where
-
   pub words-turn : (k : ℕ) (w : Words) → k < length t
       → foldl (pushedWithin words) w (rowWords (drop k t) fs (i + k))
       ≡ foldl (pushedWithin words) (foldl (pushedWithin words) w (wordsOf (getD t k 0) (numberAt fs (i + k)))) (rowWords (drop (k + 1) t) fs (i + (k + 1)))

@@ -1,5 +1,5 @@
--- The replay format, Verbs: a line's fields as the numbers that a host hands in for the call. A row has a letter for each
--- field, and the fields stand in the order of the call's numbers.
+-- The replay format, Verbs: a line's fields as the numbers that a host hands in for the call. A row has a letter for
+-- each field, and the fields stand in the order of the call's numbers.
 use Prim.Native.Nat.{ℕ, _+_, _/_, _%_}
 use Prim.Native.String.{String}
 use mathlib.Core.Bool.{Bool, true, cond, _&&_}

@@ -26,7 +26,8 @@ pub struct Words {
     pub len: usize,
 }
 
-// What was read of a line: the call's numbers, the place behind the last field, and whether each field was in its range.
+// What was read of a line: the call's numbers, the place behind the last field, and whether each field was in its
+// range.
 pub struct Asked {
     pub words: Words,
     pub end: usize,

@@ -19,7 +19,7 @@ as-at-most-requires : tie.Need-as-at-most-requires
 as-at-most-requires c κs = search needs
 
 cast-kind : tie.Need-cast-kind
-cast-kind c = 
+cast-kind c =
     let n = c .before .before .field .result in
     let value : c .before .as-at-most .result .value ≡ unsignedOf 10 n = ap (λ (x : FieldU64). x .value) (c .before .as-at-most .ensures) in
     omega (arith, value, unsigned-most 10 n)
@@ -28,12 +28,12 @@ hits-field-requires : tie.Need-hits-field-requires
 hits-field-requires c κs = search needs
 
 mul-expected : tie.Need-mul-expected
-mul-expected c = 
+mul-expected c =
     let counted : c .before .before .hits-field .result .hits .len ≡ hitsAt (c .before .before .before .before .before .before .args .fields) 10 .hits .len = ap (λ (x : HitsField). x .hits .len) (c .before .before .hits-field .ensures) in
     omega (arith, counted, few-hits (c .before .before .before .before .before .before .args .fields) 10)
 
 add-expected : tie.Need-add-expected
-add-expected c = 
+add-expected c =
     let counted : c .before .before .hits-field .result .hits .len ≡ hitsAt (c .before .before .before .before .before .before .args .fields) 10 .hits .len = ap (λ (x : HitsField). x .hits .len) (c .before .before .hits-field .ensures) in
     omega (arith, counted, few-hits (c .before .before .before .before .before .before .args .fields) 10)
 
@@ -56,7 +56,7 @@ both-requires-3 : tie.Need-both-requires-3
 both-requires-3 c κs = search needs
 
 add-asked-rows : tie.Need-add-asked-rows
-add-asked-rows c = 
+add-asked-rows c =
     let n = c .before .before .before .before .before .before .before .before .before .before .before .before .before .field .result in
     let value : c .before .before .before .before .before .before .before .before .before .before .before .before .as-at-most .result .value ≡ unsignedOf 10 n = ap (λ (x : FieldU64). x .value) (c .before .before .before .before .before .before .before .before .before .before .before .before .as-at-most .ensures) in
     omega (arith, value, unsigned-most 10 n)
@@ -72,7 +72,7 @@ step-if-requires c κs = search needs
 
 returns : tie.Need-returns
 unfolding arbitrateCall
-returns c = 
+returns c =
     rw (
       c .step-if .ensures,
       c .before .asked-rows .ensures,

@@ -13,12 +13,12 @@ registrations-field-requires : tie.Need-registrations-field-requires
 registrations-field-requires c κs = search needs
 
 mul-expected : tie.Need-mul-expected
-mul-expected c = 
+mul-expected c =
     let counted : c .before .registrations-field .result .len ≡ registrationsAt (c .before .before .args .fields) 3 .len = ap (λ (x : RegistrationsField). x .len) (c .before .registrations-field .ensures) in
     omega (arith, counted, few-registrations (c .before .before .args .fields) 3)
 
 add-expected : tie.Need-add-expected
-add-expected c = 
+add-expected c =
     let counted : c .before .registrations-field .result .len ≡ registrationsAt (c .before .before .args .fields) 3 .len = ap (λ (x : RegistrationsField). x .len) (c .before .registrations-field .ensures) in
     omega (arith, counted, few-registrations (c .before .before .args .fields) 3)
 

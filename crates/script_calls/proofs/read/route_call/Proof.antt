@@ -17,7 +17,7 @@ as-at-most-requires : tie.Need-as-at-most-requires
 as-at-most-requires c κs = search needs
 
 cast-kind : tie.Need-cast-kind
-cast-kind c = 
+cast-kind c =
     let n = c .before .before .field .result in
     let value : c .before .as-at-most .result .value ≡ unsignedOf 9 n = ap (λ (x : FieldU64). x .value) (c .before .as-at-most .ensures) in
     omega (arith, value, unsigned-most 9 n)
@@ -30,19 +30,19 @@ event-call-requires c κs = search needs
 
 returns : tie.Need-returns
 unfolding routeCall
-returns c = 
+returns c =
     let zero = rw (c .before .before .before .before .as-at-most .ensures, c .before .before .before .before .before .field .ensures) at (c .before .before .if1 .taken) in
     rw (eq-eqb _ _ zero, c .event-call .ensures, c .before .without-button .ensures)
 
 event-call-requires-2 : tie.Need-event-call-requires-2
-event-call-requires-2 c κs = 
+event-call-requires-2 c κs =
     let n = c .before .before .before .field .result in
     let value : c .before .before .as-at-most .result .value ≡ unsignedOf 9 n = ap (λ (x : FieldU64). x .value) (c .before .before .as-at-most .ensures) in
     omega (arith, value, unsigned-most 9 n)
 
 returns-2 : tie.Need-returns-2
 unfolding routeCall
-returns-2 c = 
+returns-2 c =
     let other = rw (c .before .before .before .as-at-most .ensures, c .before .before .before .before .field .ensures) at (c .before .if1 .left) in
     rw (ne-eqb _ _ other, c .event-call2 .ensures, c .before .before .before .as-at-most .ensures, c .before .before .before .before .field .ensures)
 

@@ -18,13 +18,13 @@ call-at-requires c κs = search needs
 
 returns : tie.Need-returns
 unfolding stepIf
-returns c = 
+returns c =
     let test = rw (c .before .before .both2 .ensures, c .before .before .before .both .ensures, c .before .before .before .before .is-form .ensures) at (c .before .if1 .taken) in
     rw (test, c .call-at .ensures)
 
 returns-2 : tie.Need-returns-2
 unfolding stepIf
-returns-2 c = 
+returns-2 c =
     let test = rw (c .before .both2 .ensures, c .before .before .both .ensures, c .before .before .before .is-form .ensures) at (c .if1 .left) in
     rw test
 

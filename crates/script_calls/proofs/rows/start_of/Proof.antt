@@ -28,7 +28,7 @@ find-requires : tie.Need-find-requires Inv-loop μ-loop
 find-requires c κs = search needs
 
 returns : tie.Need-returns Inv-loop μ-loop
-returns c = 
+returns c =
     let l = c .before .before .before .loop in
     let text = c .before .before .before .before .before .args .text .now in
     (omega arith, word-past text (c .before .before .before .before .before .args .word) (l .i) (l .at) (l .inv .1) (c .before .find .result) (c .before .find .ensures) (c .before .before .loop-test .taken) (c .if1 .taken) ∙ sym (l .inv .2))
@@ -43,12 +43,12 @@ loop-less : tie.Need-loop-less Inv-loop μ-loop
 loop-less c = omega arith
 
 loop-again : tie.Need-loop-again Inv-loop μ-loop
-loop-again c = 
+loop-again c =
     let l = c .before .before .before .loop in
     (omega arith, omega arith, l .inv .2 ∙ word-turn (c .before .before .before .before .before .args .text .now) (c .before .before .before .before .before .args .word) (l .i) (l .at) (l .inv .1) (c .before .find .result) (c .before .find .ensures) (c .before .before .loop-test .taken))
 
 returns-2 : tie.Need-returns-2 Inv-loop μ-loop
-returns-2 c = 
+returns-2 c =
     let l = c .before .loop in
     (l .inv .1, word-here (c .before .before .before .args .text .now) (c .before .before .before .args .word) (l .i) (l .at) (l .inv .1) (c .loop-test .left) ∙ sym (l .inv .2))
 

@@ -49,7 +49,7 @@ loop-less : tie.Need-loop-less Inv-loop μ-loop
 loop-less c = omega arith
 
 loop-again : tie.Need-loop-again Inv-loop μ-loop
-loop-again c = 
+loop-again c =
     let a = c .before .before .before .before .before .before .before .before .before .args in
     let l = c .before .before .before .before .before .before .loop in
     let more = c .before .before .before .before .before .loop-test .taken in (
@@ -63,7 +63,7 @@ add-t16 c = omega arith
 
 returns : tie.Need-returns Inv-loop μ-loop
 unfolding withRow
-returns c = 
+returns c =
     let a = c .before .before .before .before .args in
     let l = c .before .loop in
     rw (
