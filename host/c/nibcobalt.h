@@ -91,8 +91,8 @@ typedef struct {
 
 /* The bytes of stack that each function needs, with all that it calls, but for functions of the C library. */
 #define NIBCOBALT_STACK_START_COUNTER 269344
-#define NIBCOBALT_STACK_CALL 1573248
-#define NIBCOBALT_STACK_ROUTE 988416
+#define NIBCOBALT_STACK_CALL 1566992
+#define NIBCOBALT_STACK_ROUTE 951888
 
 /* Any call: its number, its fields, zeros behind them; and the lists beside it. */
 typedef struct {

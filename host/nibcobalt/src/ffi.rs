@@ -16,9 +16,9 @@ pub const SHORT_BUFFER: u64 = 1001;
 /// The bytes of stack that [`start`] needs in the library.
 pub const STACK_START_COUNTER: usize = 269_344;
 /// The bytes of stack that [`call`] needs in the library.
-pub const STACK_CALL: usize = 1_573_248;
+pub const STACK_CALL: usize = 1_566_992;
 /// The bytes of stack that [`route`] needs in the library.
-pub const STACK_ROUTE: usize = 988_416;
+pub const STACK_ROUTE: usize = 951_888;
 
 /// The words of a counter's memory that are its registry.
 pub const REGISTRY_WORDS: usize = 5188;
