@@ -1,5 +1,8 @@
 // Columns 1 to 7 of an answer line, of which the first six are those of RULES.md, Desk, and the pieces that they are
 // made of.
+
+#![tactic(auto)]
+
 pub mod columns;
 pub mod delivered;
 pub mod named;

@@ -1,5 +1,8 @@
 // What a call shows beside its handle, its deliveries and its releases: column 8 of an answer line, or the words behind
 // a host's answer.
+
+#![tactic(auto)]
+
 pub mod closing;
 pub mod hits;
 pub mod more;

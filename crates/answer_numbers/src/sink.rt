@@ -13,7 +13,7 @@ use answer_text::put::{put_byte, put_i32, put_u64};
 
 // A column writes a signed number with its sign; the others add 2^31 to it. A word is eight bytes, and words have
 // nothing between them.
-#[derive(Drop)]
+#[derive(Clone, Copy)]
 pub enum SinkKind {
     Column,
     Dump,
@@ -22,7 +22,7 @@ pub enum SinkKind {
 }
 
 // The place in the text after the last number, and the digest of the numbers so far.
-#[derive(Drop)]
+#[derive(Clone, Copy)]
 pub struct Sink {
     pub kind: SinkKind,
     pub at: usize,

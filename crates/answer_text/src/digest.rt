@@ -2,7 +2,7 @@
 ghost use Rattle.std.specs.Prelude.{◌<◌, ◌≡◌};
 ghost use Rattle.answer_text.specs.Digests.{mix_a, mix_b, start_digest, add_number, value_of, DigestClaims};
 
-#[derive(Drop)]
+#[derive(Clone, Copy)]
 pub struct Digest {
     pub a: u64,
     pub b: u64,

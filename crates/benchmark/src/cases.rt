@@ -4,7 +4,7 @@ use crate::opening::{open, with_captures, with_presses};
 use crate::tally::Tally;
 use crate::turns::{close_turns, disconnect_turns, hit_turns, route_turns};
 
-#[derive(Drop)]
+#[derive(Clone, Copy)]
 pub enum Case {
     Move3,
     Move16,

@@ -7,7 +7,7 @@ use input_events::event::{
 use maps::keys::InputDeviceId;
 
 // What one contact does again and again: it moves, or it presses and lifts in turn.
-#[derive(Drop)]
+#[derive(Clone, Copy)]
 pub enum Gesture {
     Moves,
     Presses,

@@ -1,5 +1,8 @@
 // Makes one kind of call again and again, so that its time can be measured from outside: `benchmark CASE TURNS`.
 // It writes numbers that depend on every call, by which two implementations can be compared.
+
+#![tactic(auto)]
+
 mod cases;
 mod events;
 mod opening;

@@ -14,13 +14,13 @@ use maps::keys::CompositionPointerId;
 use records::surface::{SurfaceDescriptor, SurfaceInputPolicy, SurfaceKind};
 
 // What the events name.
-#[derive(Drop)]
+#[derive(Clone, Copy)]
 pub struct Places {
     pub window: GenerationalHandle,
     pub view: GenerationalHandle,
 }
 
-#[derive(Drop)]
+#[derive(Clone, Copy)]
 pub struct Opened {
     pub places: Places,
     pub registry: CompositionRegistry,

@@ -6,7 +6,7 @@ use input_router::router::PlatformInputRouter;
 use std::num::wrapping_add_u64;
 
 // The registry's revision and the number of open presses at the end, and the sum over all answers.
-#[derive(Drop)]
+#[derive(Clone, Copy)]
 pub struct Tally {
     pub revision: u64,
     pub presses: u64,

@@ -11,14 +11,14 @@ use input_events::event::OptionalButton;
 use maps::keys::{CompositionPointerId, InputDeviceId};
 use records::shortcut::SurfaceShortcutRegistration;
 
-#[derive(Drop)]
+#[derive(Clone, Copy)]
 pub struct OptionalNumbers {
     pub present: u64,
     pub index: u64,
     pub generation: u64,
 }
 
-#[derive(Drop)]
+#[derive(Clone, Copy)]
 pub struct RectNumbers {
     pub present: u64,
     pub x_milli: u64,
@@ -27,21 +27,21 @@ pub struct RectNumbers {
     pub height_milli: u64,
 }
 
-#[derive(Drop)]
+#[derive(Clone, Copy)]
 pub struct ButtonNumbers {
     pub present: u64,
     pub button: u64,
 }
 
 #[repr(C)]
-#[derive(Drop)]
+#[derive(Clone, Copy)]
 pub struct RegistrationNumbers {
     pub class_mask: u64,
     pub scope: u64,
     pub priority: u64,
 }
 
-#[derive(Drop)]
+#[derive(Clone, Copy)]
 pub struct MaybeNumbers {
     pub present: u64,
     pub registration: RegistrationNumbers,

@@ -4,12 +4,12 @@ ghost use Rattle.std.specs.Int.{w16, w32};
 ghost use Rattle.std.proofs.Common.{of_z};
 ghost use Rattle.call_fields.specs.Narrow.{within, is_one, one_if, signed_of, short_of};
 
-#[derive(Drop)]
+#[derive(Clone, Copy)]
 pub struct Signed {
     pub value: i32,
 }
 
-#[derive(Drop)]
+#[derive(Clone, Copy)]
 pub struct Short {
     pub value: i16,
 }

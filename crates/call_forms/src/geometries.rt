@@ -8,13 +8,13 @@ use geometry::metrics::ViewMetricsUpdate;
 use geometry::surface::SurfaceGeometry;
 use geometry::transform::{Point, SurfaceTransform};
 
-#[derive(Drop)]
+#[derive(Clone, Copy)]
 pub struct PointNumbers {
     pub x: u64,
     pub y: u64,
 }
 
-#[derive(Drop)]
+#[derive(Clone, Copy)]
 pub struct TransformNumbers {
     pub m11: u64,
     pub m12: u64,
@@ -24,7 +24,7 @@ pub struct TransformNumbers {
     pub y: u64,
 }
 
-#[derive(Drop)]
+#[derive(Clone, Copy)]
 pub struct GeometryNumbers {
     pub bounds: RectNumbers,
     pub clip: RectNumbers,

@@ -1,4 +1,7 @@
 // Calls written as numbers, and the strict test of numbers: only those that their call is written as are a form.
+
+#![tactic(auto)]
+
 pub mod arbitrations;
 pub mod call;
 pub mod geometries;

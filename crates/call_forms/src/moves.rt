@@ -5,7 +5,7 @@ ghost use Rattle.call_forms.specs.Moves.{pointer_move, wheel_move, tilt};
 use call_fields::narrow::{Short, Signed, bits_of, short_bits};
 use input_events::event::{PointerInput, WheelInput};
 
-#[derive(Drop)]
+#[derive(Clone, Copy)]
 pub struct MoveNumbers {
     pub x: u64,
     pub y: u64,
@@ -13,7 +13,7 @@ pub struct MoveNumbers {
     pub delta_y: u64,
 }
 
-#[derive(Drop)]
+#[derive(Clone, Copy)]
 pub struct TiltNumbers {
     pub x: u64,
     pub y: u64,

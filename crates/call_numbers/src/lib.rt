@@ -1,4 +1,7 @@
 // Calls as numbers: the call's number, then its fields.
+
+#![tactic(auto)]
+
 pub mod arbitrations;
 pub mod call;
 pub mod events;

@@ -10,7 +10,7 @@ use input_events::event::PlatformInputEvent;
 use records::surface::SurfaceDescriptor;
 use records::trace::Hits;
 
-#[derive(Drop)]
+#[derive(Clone, Copy)]
 pub enum PanelCall {
     CreateWindow,
     CloseWindow(GenerationalHandle),
@@ -22,7 +22,7 @@ pub enum PanelCall {
     UpdateSurfaceInputPolicy(PolicyArguments),
 }
 
-#[derive(Drop)]
+#[derive(Clone, Copy)]
 pub enum InputCall {
     SetFocus(FocusArguments),
     CapturePointer(HandleArguments),
@@ -35,20 +35,20 @@ pub enum InputCall {
 }
 
 // The registrations of `RegisterSet` stand beside the call.
-#[derive(Drop)]
+#[derive(Clone, Copy)]
 pub enum ShortcutCall {
     RegisterSet(HandleArguments),
     RegisterOne(RegistrationArguments),
     SetMask(MaskArguments),
 }
 
-#[derive(Drop)]
+#[derive(Clone, Copy)]
 pub enum CloseCall {
     CloseSurface(GenerationalHandle),
     Shutdown,
 }
 
-#[derive(Drop)]
+#[derive(Clone, Copy)]
 pub enum RouterCall {
     Route(PlatformInputEvent),
     ReleaseSurface(GenerationalHandle),
@@ -56,7 +56,7 @@ pub enum RouterCall {
 }
 
 // The calls that alter nothing.
-#[derive(Drop)]
+#[derive(Clone, Copy)]
 pub enum ReadCall {
     ViewWindow(GenerationalHandle),
     ViewMetrics(GenerationalHandle),
@@ -73,7 +73,7 @@ pub enum ReadCall {
 
 // The release of a device's captures is no `InputCall`: it alone of these answers a list of captures.
 // The hits of an arbitration stand beside the call.
-#[derive(Drop)]
+#[derive(Clone, Copy)]
 pub enum Call {
     Panel(PanelCall),
     Input(InputCall),
@@ -87,7 +87,7 @@ pub enum Call {
 
 // What is handed in beside a call, as an enum holds no array: the hits of an arbitration and the registrations of a
 // set.
-#[derive(Drop)]
+#[derive(Clone, Copy)]
 pub struct Lists {
     pub hits: Hits,
     pub registrations: Registrations,

@@ -7,7 +7,7 @@ use records::surface::SurfaceDescriptor;
 use records::view::ViewInputState;
 
 // The plain read-outs of a registry, together.
-#[derive(Drop)]
+#[derive(Clone, Copy)]
 pub struct Counts {
     pub session: GenerationalHandle,
     pub session_epoch: u64,
@@ -19,7 +19,7 @@ pub struct Counts {
 
 // A list is no variant's value, as an enum holds no array. The variant names it: the captures and layers of a view, the
 // traces, and the hits at a point are read from the counter after the call, which a read leaves as it was.
-#[derive(Drop)]
+#[derive(Clone, Copy)]
 pub enum Shown {
     Nothing,
     Window(GenerationalHandle),

@@ -18,7 +18,7 @@ use records::trace::{ArbitrationEvent, CompositionTrace, Deliveries, Hits, Input
 use records::view::{ViewRecord, ViewTable};
 use view_panels::{ViewPanels, gather};
 
-#[derive(Drop)]
+#[derive(Clone, Copy)]
 pub struct ArbitrationResult {
     pub revision: u64,
     pub deliveries: Deliveries,
@@ -26,7 +26,7 @@ pub struct ArbitrationResult {
 }
 
 // A refused call has a blank result.
-#[derive(Drop)]
+#[derive(Clone, Copy)]
 pub struct Arbitrated {
     pub outcome: Outcome,
     pub result: ArbitrationResult,
@@ -174,7 +174,7 @@ pub fn trace_of(
 }
 
 // What is decided of an event before anything is written: its refusal, and the trace of it.
-#[derive(Drop)]
+#[derive(Clone, Copy)]
 pub struct Decision {
     pub outcome: Outcome,
     pub trace: CompositionTrace,

@@ -1,4 +1,7 @@
 // Arbitration: which panels get an event, which one takes it, and the trace that is kept.
+
+#![tactic(auto)]
+
 pub mod arbitrate;
 pub mod targets;
 pub mod trace;

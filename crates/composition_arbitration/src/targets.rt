@@ -9,7 +9,7 @@ use records::trace::{ArbitrationEvent, Hits};
 use records::view::ViewRecord;
 
 // What chooses the targets of an event; the hits of a stack stand beside it.
-#[derive(Drop)]
+#[derive(Clone, Copy)]
 pub enum Choice {
     Captured(GenerationalHandle),
     Hit(OptionalHandle),

@@ -12,7 +12,7 @@ use records::trace::{Deliveries, Hits, InputDelivery};
 use view_panels::ViewPanels;
 
 // What a layer does with an event.
-#[derive(Drop)]
+#[derive(Clone, Copy)]
 pub enum Verdict {
     Observing,
     NotTargeted,
@@ -22,7 +22,7 @@ pub enum Verdict {
 }
 
 // Who gets an event, and who takes it.
-#[derive(Drop)]
+#[derive(Clone, Copy)]
 pub struct Walked {
     pub deliveries: Deliveries,
     pub consumed_by: OptionalHandle,

@@ -8,26 +8,26 @@ use handles::arena::Handles;
 use handles::{GenerationalHandle, OptionalHandle};
 use records::error::Outcome;
 
-#[derive(Drop)]
+#[derive(Clone, Copy)]
 pub enum SurfaceRelease {
     Focus,
     PointerCapture,
     ImeComposition,
 }
 
-#[derive(Drop)]
+#[derive(Clone, Copy)]
 pub struct ReleasedInput {
     pub release: SurfaceRelease,
 }
 
 // What a closed panel had: its composition, its capture, its focus, in this order.
-#[derive(Drop)]
+#[derive(Clone, Copy)]
 pub struct SurfaceReleases {
     pub items: [ReleasedInput; 3],
     pub len: usize,
 }
 
-#[derive(Drop)]
+#[derive(Clone, Copy)]
 pub struct SurfaceCloseReport {
     pub surface: GenerationalHandle,
     pub releases: SurfaceReleases,
@@ -36,7 +36,7 @@ pub struct SurfaceCloseReport {
 }
 
 // The answer of a close: the report stands if it is accepted, and is blank else.
-#[derive(Drop)]
+#[derive(Clone, Copy)]
 pub struct SurfaceClosed {
     pub outcome: Outcome,
     pub report: SurfaceCloseReport,
@@ -44,13 +44,13 @@ pub struct SurfaceClosed {
 }
 
 // The reports of the panels that a shutdown closed: up to 16 in each of 16 views.
-#[derive(Drop)]
+#[derive(Clone, Copy)]
 pub struct CloseReports {
     pub items: [SurfaceCloseReport; 256],
     pub len: usize,
 }
 
-#[derive(Drop)]
+#[derive(Clone, Copy)]
 pub struct CompositionShutdownReport {
     pub closed_surfaces: CloseReports,
     pub closed_views: Handles,
@@ -59,7 +59,7 @@ pub struct CompositionShutdownReport {
 }
 
 // The answer of a shutdown: the report stands if it is accepted, and is blank else.
-#[derive(Drop)]
+#[derive(Clone, Copy)]
 pub struct Shutdown {
     pub outcome: Outcome,
     pub report: CompositionShutdownReport,

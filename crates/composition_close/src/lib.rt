@@ -1,4 +1,7 @@
 // The close of a panel, and the shutdown of the whole registry.
+
+#![tactic(auto)]
+
 pub mod answer;
 pub mod close;
 pub mod detach;

@@ -16,7 +16,7 @@ use records::error::{CompositionError, Outcome, refuse_if};
 use records::layers::Layers;
 
 // The work so far: the registry, and the reports of the panels that are closed.
-#[derive(Drop)]
+#[derive(Clone, Copy)]
 pub struct Closing {
     pub registry: CompositionRegistry,
     pub reports: CloseReports,

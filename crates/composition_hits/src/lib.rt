@@ -1,4 +1,7 @@
 // The hit test of a view: the panels under a point, topmost first, as numbers in a lent buffer.
+
+#![tactic(auto)]
+
 mod buffer;
 pub mod stack;
 pub mod table;

@@ -16,7 +16,7 @@ use records::view::ViewTable;
 use view_panels::{ViewPanels, gather};
 
 // The refusal, and how many numbers stand at the front of the buffer.
-#[derive(Drop)]
+#[derive(Clone, Copy)]
 pub struct HitTest {
     pub outcome: Outcome,
     pub numbers: usize,

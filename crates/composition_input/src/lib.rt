@@ -1,4 +1,7 @@
 // The calls on focus, captures and compositions.
+
+#![tactic(auto)]
+
 pub mod answer;
 pub mod captures;
 pub mod focus;

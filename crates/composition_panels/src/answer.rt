@@ -9,21 +9,21 @@ use handles::{GenerationalHandle, OptionalHandle};
 use records::error::{CompositionError, Outcome};
 
 // The answer of a creating call: the handle stands if it is accepted.
-#[derive(Drop)]
+#[derive(Clone, Copy)]
 pub struct Created {
     pub outcome: Outcome,
     pub handle: OptionalHandle,
     pub registry: CompositionRegistry,
 }
 
-#[derive(Drop)]
+#[derive(Clone, Copy)]
 pub enum OptionalMetrics {
     None,
     Some(ViewMetrics),
 }
 
 // The answer of a metrics update: the new metrics stand if it is accepted.
-#[derive(Drop)]
+#[derive(Clone, Copy)]
 pub struct MetricsUpdated {
     pub outcome: Outcome,
     pub metrics: OptionalMetrics,

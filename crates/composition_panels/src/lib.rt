@@ -1,4 +1,7 @@
 // The calls on windows, views, metrics and panels.
+
+#![tactic(auto)]
+
 pub mod answer;
 pub mod metrics;
 pub mod panels;

@@ -1,4 +1,7 @@
 // What a caller reads of a registry. A damaged registry is refused first, and then a handle that is not live.
+
+#![tactic(auto)]
+
 ghost use Rattle.std.specs.Prelude.{◌≡◌, [], map, ◌<◌};
 ghost use Rattle.lists.specs.Tables.{entries_of, packed, pushed};
 ghost use Rattle.records.specs.Layers.{layers as stateLayers};
@@ -16,52 +19,52 @@ use records::trace::Traces;
 use records::view::{ViewInputState, ViewRecord};
 
 // What stands beside the outcome is the read value where it is accepted, and blank where it is refused.
-#[derive(Drop)]
+#[derive(Clone, Copy)]
 pub struct WindowRead {
     pub outcome: Outcome,
     pub window: GenerationalHandle,
 }
 
-#[derive(Drop)]
+#[derive(Clone, Copy)]
 pub struct MetricsRead {
     pub outcome: Outcome,
     pub metrics: ViewMetrics,
 }
 
-#[derive(Drop)]
+#[derive(Clone, Copy)]
 pub struct InputStateRead {
     pub outcome: Outcome,
     pub state: ViewInputState,
 }
 
-#[derive(Drop)]
+#[derive(Clone, Copy)]
 pub struct CapturesRead {
     pub outcome: Outcome,
     pub captures: PointerCaptures,
 }
 
 // The descriptors of a view's panels, from the lowest layer to the highest.
-#[derive(Drop)]
+#[derive(Clone, Copy)]
 pub struct Descriptors {
     pub items: [SurfaceDescriptor; 16],
     pub len: usize,
 }
 
 // The layers from the lowest on, and the descriptor of each at the same place.
-#[derive(Drop)]
+#[derive(Clone, Copy)]
 pub struct LayersRead {
     pub outcome: Outcome,
     pub layers: Layers,
     pub descriptors: Descriptors,
 }
 
-#[derive(Drop)]
+#[derive(Clone, Copy)]
 pub struct TracesRead {
     pub outcome: Outcome,
     pub traces: Traces,
 }
 
-#[derive(Drop)]
+#[derive(Clone, Copy)]
 pub struct DescriptorRead {
     pub outcome: Outcome,
     pub descriptor: SurfaceDescriptor,

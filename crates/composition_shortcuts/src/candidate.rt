@@ -10,7 +10,7 @@ use records::shortcut::{ShortcutScope, SlotShortcut};
 use records::surface::{SurfaceDescriptor, SurfaceTable};
 
 // A registration that counts, as it is compared.
-#[derive(Drop)]
+#[derive(Clone, Copy)]
 pub struct Candidate {
     pub priority: i16,
     pub scope_rank: u8,
@@ -19,7 +19,7 @@ pub struct Candidate {
     pub surface: GenerationalHandle,
 }
 
-#[derive(Drop)]
+#[derive(Clone, Copy)]
 pub enum OptionalCandidate {
     None,
     Some(Candidate),

@@ -1,4 +1,7 @@
 // System shortcuts: what a panel registers, and which panel an event goes to.
+
+#![tactic(auto)]
+
 mod candidate;
 mod own_view;
 pub mod register;

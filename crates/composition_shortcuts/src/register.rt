@@ -12,13 +12,13 @@ use records::shortcut::{ShortcutScope, Shortcuts, SlotShortcut, SurfaceShortcutR
 use records::surface::{SurfaceInputPolicy, is_interactive};
 
 // The registrations handed in. A `len` over 64 stands for a list that is too long.
-#[derive(Drop)]
+#[derive(Clone, Copy)]
 pub struct Registrations {
     pub items: [SurfaceShortcutRegistration; 64],
     pub len: usize,
 }
 
-#[derive(Drop)]
+#[derive(Clone, Copy)]
 pub enum OptionalRegistration {
     None,
     Some(SurfaceShortcutRegistration),

@@ -15,7 +15,7 @@ use records::surface::SurfaceTable;
 use records::view::ViewTable;
 
 // The answer: the panel that the event goes to stands if it is accepted.
-#[derive(Drop)]
+#[derive(Clone, Copy)]
 pub struct Resolved {
     pub outcome: Outcome,
     pub surface: OptionalHandle,

@@ -1,4 +1,7 @@
 // That no call damages a registry.
+
+#![tactic(auto)]
+
 ghost use Rattle.std.specs.Prelude.{◌≡◌, true};
 ghost use Rattle.composition_state.specs.Damage.{is_sound};
 ghost use Rattle.composition_soundness.specs.Claims.{Undamaged, SoundnessClaims};

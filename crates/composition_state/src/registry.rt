@@ -11,7 +11,7 @@ use records::trace::Traces;
 use records::view::ViewTable;
 
 #[repr(C)]
-#[derive(Drop)]
+#[derive(Clone, Copy)]
 pub struct CompositionLimits {
     pub max_windows: u64,
     pub max_views: u64,
@@ -20,7 +20,7 @@ pub struct CompositionLimits {
     pub max_trace_entries: u64,
 }
 
-#[derive(Drop)]
+#[derive(Clone, Copy)]
 pub struct CompositionRegistry {
     pub session: GenerationalHandle,
     pub session_epoch: u64,
@@ -35,7 +35,7 @@ pub struct CompositionRegistry {
 }
 
 // The answer of a call whose only values are the refusal and the registry.
-#[derive(Drop)]
+#[derive(Clone, Copy)]
 pub struct Changed {
     pub outcome: Outcome,
     pub registry: CompositionRegistry,

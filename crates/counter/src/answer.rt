@@ -15,7 +15,7 @@ use release_lists::captures::CaptureList;
 use release_lists::releases::Releases;
 
 // What a release of a device's captures, a panel's close and a shutdown list.
-#[derive(Drop)]
+#[derive(Clone, Copy)]
 pub struct Listed {
     pub captures: CaptureList,
     pub closed: SurfaceCloseReport,
@@ -24,7 +24,7 @@ pub struct Listed {
 
 // `handle` is the one that a create or an attach made. `report` is that of a routed event; an arbitration and a router
 // release answer their part of it.
-#[derive(Drop)]
+#[derive(Clone, Copy)]
 pub struct Answer {
     pub outcome: RouterOutcome,
     pub handle: OptionalHandle,

@@ -30,13 +30,13 @@ use records::trace::Hits;
 use registry_step::steps::{RegistryStepped, input_step, panel_step, shortcut_step};
 
 // The program's whole state.
-#[derive(Drop)]
+#[derive(Clone, Copy)]
 pub struct Counter {
     pub registry: CompositionRegistry,
     pub router: PlatformInputRouter,
 }
 
-#[derive(Drop)]
+#[derive(Clone, Copy)]
 pub struct Stepped {
     pub answer: Answer,
     pub counter: Counter,

@@ -7,14 +7,14 @@ use maps::bindings::{Binding, Bindings};
 use maps::keys::{BindingKey, CompositionPointerId, DeviceKey, InputDeviceId, MapKey, binding_key};
 
 #[repr(C)]
-#[derive(Drop)]
+#[derive(Clone, Copy)]
 pub struct BindingMemory {
     pub key: MapKey,
     pub surface: GenerationalHandle,
 }
 
 #[repr(C)]
-#[derive(Drop)]
+#[derive(Clone, Copy)]
 pub struct BindingsMemory {
     pub entries: [BindingMemory; 128],
     pub len: usize,

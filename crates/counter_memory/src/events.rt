@@ -9,7 +9,7 @@ use maps::keys::CompositionPointerId;
 use records::trace::ArbitrationEvent;
 
 #[repr(C)]
-#[derive(Drop)]
+#[derive(Clone, Copy)]
 pub struct ArbitrationEventMemory {
     pub pointer: CompositionPointerId,
     pub class_mask: u64,

@@ -7,7 +7,7 @@ use crate::router::{RouterMemory, router_memory, router_of};
 use counter::step::Counter;
 
 #[repr(C)]
-#[derive(Drop)]
+#[derive(Clone, Copy)]
 pub struct CounterMemory {
     pub registry: RegistryMemory,
     pub router: RouterMemory,

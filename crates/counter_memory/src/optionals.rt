@@ -7,14 +7,14 @@ use geometry::rect::{OptionalRect, SurfaceRect};
 use handles::{GenerationalHandle, OptionalHandle};
 
 #[repr(C)]
-#[derive(Drop)]
+#[derive(Clone, Copy)]
 pub struct OptionalHandleMemory {
     pub is_some: bool,
     pub handle: GenerationalHandle,
 }
 
 #[repr(C)]
-#[derive(Drop)]
+#[derive(Clone, Copy)]
 pub struct OptionalRectMemory {
     pub is_some: bool,
     pub rect: SurfaceRect,

@@ -11,7 +11,7 @@ use handles::GenerationalHandle;
 use handles::arena::Arena;
 
 #[repr(C)]
-#[derive(Drop)]
+#[derive(Clone, Copy)]
 pub struct RegistryMemory {
     pub session: GenerationalHandle,
     pub session_epoch: u64,

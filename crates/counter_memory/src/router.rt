@@ -7,7 +7,7 @@ use input_router::router::PlatformInputRouter;
 use maps::sequences::DeviceSequences;
 
 #[repr(C)]
-#[derive(Drop)]
+#[derive(Clone, Copy)]
 pub struct RouterMemory {
     pub max_active_bindings: u64,
     pub last_timestamp_micros: u64,

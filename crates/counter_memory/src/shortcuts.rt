@@ -7,7 +7,7 @@ use records::shortcut::{Shortcuts, SlotShortcut, SurfaceShortcutRegistration};
 
 // A registration's fields, beside the slot of its panel.
 #[repr(C)]
-#[derive(Drop)]
+#[derive(Clone, Copy)]
 pub struct SlotShortcutMemory {
     pub class_mask: u64,
     pub slot: u32,
@@ -16,7 +16,7 @@ pub struct SlotShortcutMemory {
 }
 
 #[repr(C)]
-#[derive(Drop)]
+#[derive(Clone, Copy)]
 pub struct ShortcutsMemory {
     pub entries: [SlotShortcutMemory; 256],
     pub len: usize,

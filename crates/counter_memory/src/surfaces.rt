@@ -11,7 +11,7 @@ use handles::arena::Arena;
 use records::surface::{SurfaceDescriptor, SurfaceRecord, SurfaceTable};
 
 #[repr(C)]
-#[derive(Drop)]
+#[derive(Clone, Copy)]
 pub struct SurfaceGeometryMemory {
     pub bounds: OptionalRectMemory,
     pub clip: OptionalRectMemory,
@@ -22,7 +22,7 @@ pub struct SurfaceGeometryMemory {
 
 // A record's only field is its descriptor, so the descriptor's fields stand here.
 #[repr(C)]
-#[derive(Drop)]
+#[derive(Clone, Copy)]
 pub struct SurfaceRecordMemory {
     pub view: GenerationalHandle,
     pub kind: u8,
@@ -33,7 +33,7 @@ pub struct SurfaceRecordMemory {
 }
 
 #[repr(C)]
-#[derive(Drop)]
+#[derive(Clone, Copy)]
 pub struct SurfaceTableMemory {
     pub arena: Arena,
     pub records: [SurfaceRecordMemory; 64],

@@ -8,7 +8,7 @@ use handles::GenerationalHandle;
 use records::trace::{CompositionTrace, Deliveries, Hits, Traces};
 
 #[repr(C)]
-#[derive(Drop)]
+#[derive(Clone, Copy)]
 pub struct CompositionTraceMemory {
     pub revision: u64,
     pub view: GenerationalHandle,
@@ -19,7 +19,7 @@ pub struct CompositionTraceMemory {
 }
 
 #[repr(C)]
-#[derive(Drop)]
+#[derive(Clone, Copy)]
 pub struct TracesMemory {
     pub items: [CompositionTraceMemory; 32],
     pub len: usize,

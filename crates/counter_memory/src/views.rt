@@ -12,7 +12,7 @@ use records::layers::Layers;
 use records::view::{ViewRecord, ViewTable};
 
 #[repr(C)]
-#[derive(Drop)]
+#[derive(Clone, Copy)]
 pub struct ViewMetricsMemory {
     pub revision: u64,
     pub origin_x_milli: i32,
@@ -27,7 +27,7 @@ pub struct ViewMetricsMemory {
 }
 
 #[repr(C)]
-#[derive(Drop)]
+#[derive(Clone, Copy)]
 pub struct ViewRecordMemory {
     pub window: GenerationalHandle,
     pub metrics: ViewMetricsMemory,
@@ -39,7 +39,7 @@ pub struct ViewRecordMemory {
 }
 
 #[repr(C)]
-#[derive(Drop)]
+#[derive(Clone, Copy)]
 pub struct ViewTableMemory {
     pub arena: Arena,
     pub records: [ViewRecordMemory; 16],

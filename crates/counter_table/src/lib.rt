@@ -1,4 +1,7 @@
 // RULES.md, Counter table, proved as one statement.
+
+#![tactic(auto)]
+
 ghost use Rattle.counter_table.specs.Table.{CounterTable, CounterExamples};
 
 // All nine lines of the table, of the definitions that the contracts cite.

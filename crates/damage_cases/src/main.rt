@@ -1,5 +1,8 @@
 // Hands in registries and routers that are damaged in each way of the list in RULES.md, Damage, and odd ones that are
 // not on it, and writes each answer.
+
+#![tactic(auto)]
+
 mod arenas;
 mod odd;
 mod reads;

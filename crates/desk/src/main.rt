@@ -2,6 +2,9 @@
 // observes, and the pay sheet over both, which takes every event. One pointer presses, the pay sheet closes, and the
 // pointer's device goes.
 // The program reads nothing and writes a line for each of the eight steps.
+
+#![tactic(auto)]
+
 mod opening;
 mod steps;
 mod table;

@@ -18,7 +18,7 @@ use records::trace::Hits;
 
 // What the steps name: the window and the view of an event, the revision of the view's metrics, and the panel that is
 // closed.
-#[derive(Drop)]
+#[derive(Clone, Copy)]
 pub struct Places {
     pub window: GenerationalHandle,
     pub view: GenerationalHandle,
@@ -26,14 +26,14 @@ pub struct Places {
     pub pay_sheet: GenerationalHandle,
 }
 
-#[derive(Drop)]
+#[derive(Clone, Copy)]
 pub struct Opened {
     pub places: Places,
     pub counter: Counter,
 }
 
 // The window and the view, and the counter that has no panel yet.
-#[derive(Drop)]
+#[derive(Clone, Copy)]
 struct Viewed {
     window: GenerationalHandle,
     view: GenerationalHandle,
@@ -41,7 +41,7 @@ struct Viewed {
 }
 
 // What a call has made, and the counter after it.
-#[derive(Drop)]
+#[derive(Clone, Copy)]
 struct Created {
     handle: GenerationalHandle,
     counter: Counter,

@@ -1,5 +1,8 @@
 // The geometry of panels and the metrics of views: rectangles, the inverse transform,
 // the hit test of one panel, and the tests behind refusals 13 and 14.
+
+#![tactic(auto)]
+
 pub mod metrics;
 pub mod rect;
 pub mod rounding;

@@ -4,7 +4,7 @@ ghost use Rattle.geometry.specs.Metrics.{at_revision, default_metrics, framebuff
 use crate::rect::is_empty;
 
 // Whether a view is shown. Nothing here reads it; it is kept and answered.
-#[derive(Drop)]
+#[derive(Clone, Copy)]
 pub enum ViewVisibility {
     Visible,
     Hidden,
@@ -13,7 +13,7 @@ pub enum ViewVisibility {
 
 // What a view keeps free at each side, in thousandths.
 #[repr(C)]
-#[derive(Drop)]
+#[derive(Clone, Copy)]
 pub struct ViewInsets {
     pub top_milli: u32,
     pub right_milli: u32,
@@ -22,7 +22,7 @@ pub struct ViewInsets {
 }
 
 // A view's place and size in thousandths, its framebuffer in pixels, and its own revision.
-#[derive(Drop)]
+#[derive(Clone, Copy)]
 pub struct ViewMetrics {
     pub revision: u64,
     pub origin_x_milli: i32,
@@ -37,7 +37,7 @@ pub struct ViewMetrics {
 }
 
 // What a caller sets of a view's metrics: all but the revision.
-#[derive(Drop)]
+#[derive(Clone, Copy)]
 pub struct ViewMetricsUpdate {
     pub origin_x_milli: i32,
     pub origin_y_milli: i32,

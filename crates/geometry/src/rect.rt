@@ -3,7 +3,7 @@ ghost use Rattle.geometry.specs.Rect.{contains, is_empty, spans};
 
 // A rectangle in thousandths, whose corner may be negative.
 #[repr(C)]
-#[derive(Drop)]
+#[derive(Clone, Copy)]
 pub struct SurfaceRect {
     pub x_milli: i32,
     pub y_milli: i32,
@@ -12,7 +12,7 @@ pub struct SurfaceRect {
 }
 
 // Bounds or a clip, where present.
-#[derive(Drop)]
+#[derive(Clone, Copy)]
 pub enum OptionalRect {
     None,
     Some(SurfaceRect),

@@ -3,7 +3,7 @@ ghost use Rattle.std.specs.Int.Signed.{mag};
 ghost use Rattle.geometry.specs.Rounding.{half_away, round_i32};
 
 // A rounded number, or none where it lies outside the i32 range.
-#[derive(Drop)]
+#[derive(Clone, Copy)]
 pub enum OptionalI32 {
     None,
     Some(i32),

@@ -5,7 +5,7 @@ use crate::rect::{OptionalRect, is_empty};
 use crate::transform::{LocalPoint, Point, SurfaceTransform};
 
 // Where a panel lies in its view. Without bounds it fills the view; bounds and clip are in the panel's own coordinates.
-#[derive(Drop)]
+#[derive(Clone, Copy)]
 pub struct SurfaceGeometry {
     pub bounds: OptionalRect,
     pub clip: OptionalRect,

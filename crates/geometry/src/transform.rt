@@ -8,7 +8,7 @@ const EPSILON: f64 = 2.220446049250313e-16;
 
 // A matrix in 65,536ths, and a translation in thousandths.
 #[repr(C)]
-#[derive(Drop)]
+#[derive(Clone, Copy)]
 pub struct SurfaceTransform {
     pub m11_q16: i32,
     pub m12_q16: i32,
@@ -19,14 +19,14 @@ pub struct SurfaceTransform {
 }
 
 // A point in a panel's own coordinates, in thousandths.
-#[derive(Drop)]
+#[derive(Clone, Copy)]
 pub struct Point {
     pub x_milli: i32,
     pub y_milli: i32,
 }
 
 // Where a point of a view lies in a panel; the hit test skips a panel that has no such point.
-#[derive(Drop)]
+#[derive(Clone, Copy)]
 pub enum LocalPoint {
     At(Point),
     Skipped,

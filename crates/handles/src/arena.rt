@@ -31,7 +31,7 @@ const LAST_GENERATION: u32 = 4294967295;
 
 // One place of the table. The generation is that of the handle last issued for it, or, where it is empty, of the next.
 #[repr(C)]
-#[derive(Drop)]
+#[derive(Clone, Copy)]
 pub struct Slot {
     pub generation: u32,
     pub filled: bool,
@@ -40,7 +40,7 @@ pub struct Slot {
 // The first `used` slots were issued at some time; the first `freed` places of `free` are the indices of the empty
 // ones.
 #[repr(C)]
-#[derive(Drop)]
+#[derive(Clone, Copy)]
 pub struct Arena {
     pub slots: [Slot; SLOTS],
     pub used: usize,
@@ -106,7 +106,7 @@ fn set_free(free: [u32; SLOTS], i: usize, index: u32) -> [u32; SLOTS]
     changed
 }
 
-#[derive(Drop)]
+#[derive(Clone, Copy)]
 pub enum SlotStatus {
     Live,
     Invalid,
@@ -139,7 +139,7 @@ pub fn lookup(a: Arena, h: GenerationalHandle) -> SlotStatus
     SlotStatus::Invalid
 }
 
-#[derive(Drop)]
+#[derive(Clone, Copy)]
 pub struct Allocation {
     pub handle: GenerationalHandle,
     pub arena: Arena,
@@ -244,7 +244,7 @@ pub fn allocate(a: Arena, first_generation: u32) -> Allocation
     }
 }
 
-#[derive(Drop)]
+#[derive(Clone, Copy)]
 pub enum ReleaseOutcome {
     Released,
     Invalid,
@@ -252,7 +252,7 @@ pub enum ReleaseOutcome {
     GenerationExhausted,
 }
 
-#[derive(Drop)]
+#[derive(Clone, Copy)]
 pub struct ReleaseAnswer {
     pub outcome: ReleaseOutcome,
     pub arena: Arena,
@@ -350,7 +350,7 @@ pub fn preflight_release(a: Arena) -> bool
     ok
 }
 
-#[derive(Drop)]
+#[derive(Clone, Copy)]
 pub struct Handles {
     pub items: [GenerationalHandle; SLOTS],
     pub len: usize,

@@ -1,5 +1,8 @@
 // Generational handles, and the slot table that issues them. A handle names a slot by its index, and one life of that
 // slot by a generation.
+
+#![tactic(auto)]
+
 pub mod arena;
 pub mod well_formed;
 
@@ -11,7 +14,7 @@ ghost use Rattle.handles.specs.Claims.{ArenaClaims};
 const NO_INDEX: u32 = 4294967295;
 
 #[repr(C)]
-#[derive(Drop)]
+#[derive(Clone, Copy)]
 pub struct GenerationalHandle {
     pub index: u32,
     pub generation: u32,
@@ -54,7 +57,7 @@ pub fn handle_lt(a: GenerationalHandle, b: GenerationalHandle) -> bool
     a.index < b.index
 }
 
-#[derive(Drop)]
+#[derive(Clone, Copy)]
 pub enum OptionalHandle {
     None,
     Some(GenerationalHandle),

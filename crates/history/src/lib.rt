@@ -1,4 +1,7 @@
 // What holds of every list of calls on a counter from its start.
+
+#![tactic(auto)]
+
 ghost use Rattle.history.specs.Demand.{Demand3, NeverDamaged};
 ghost use Rattle.history.specs.ReleaseOrder.{ReleaseOrder};
 

@@ -1,6 +1,9 @@
 // The front part that a hit test answers, and the buffer behind it. Two panels fill one view, and each buffer holds
 // sevens. The program reads nothing. It writes three lines for a test that is accepted, and three for one that is
 // refused: the refusal's number, the front part, and the whole buffer after the test.
+
+#![tactic(auto)]
+
 mod opening;
 
 use crate::opening::{first, open};

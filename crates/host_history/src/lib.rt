@@ -1,4 +1,7 @@
 // What holds of every list of a host's calls on a counter in memory.
+
+#![tactic(auto)]
+
 ghost use Rattle.host_history.specs.Claims.{Demand3OfHosts};
 
 // Demand 3 holds of what the library leaves and answers.

@@ -11,7 +11,7 @@ use composition_arbitration::arbitrate::is_stack;
 use records::trace::Hits;
 
 #[repr(C)]
-#[derive(Drop)]
+#[derive(Clone, Copy)]
 pub struct Message {
     pub call: [u64; 32],
     pub hits: Hits,

@@ -10,7 +10,7 @@ use composition_shortcuts::register::Registrations;
 use records::shortcut::SurfaceShortcutRegistration;
 
 #[repr(C)]
-#[derive(Drop)]
+#[derive(Clone, Copy)]
 pub struct RegistrationsNumbers {
     pub len: usize,
     pub items: [RegistrationNumbers; 64],

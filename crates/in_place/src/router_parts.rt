@@ -14,13 +14,13 @@ use input_router::releases::Released;
 use input_router::router::PlatformInputRouter;
 use release_lists::releases::Releases;
 
-#[derive(Drop)]
+#[derive(Clone, Copy)]
 pub struct RouteAnswer {
     pub outcome: RouterOutcome,
     pub report: PlatformInputRoutingReport,
 }
 
-#[derive(Drop)]
+#[derive(Clone, Copy)]
 pub struct RouteParts {
     pub answer: RouteAnswer,
     pub registry: CompositionRegistry,
@@ -28,13 +28,13 @@ pub struct RouteParts {
 }
 
 // A damaged router is refused 42 and lists nothing.
-#[derive(Drop)]
+#[derive(Clone, Copy)]
 pub struct ReleaseAnswer {
     pub outcome: RouterOutcome,
     pub releases: Releases,
 }
 
-#[derive(Drop)]
+#[derive(Clone, Copy)]
 pub struct ReleaseParts {
     pub answer: ReleaseAnswer,
     pub router: PlatformInputRouter,

@@ -1,4 +1,7 @@
 // What holds of every list of calls that a host makes by the in-place entries.
+
+#![tactic(auto)]
+
 ghost use Rattle.in_place_history.specs.Claims.{SameSteps, Demand3InPlace};
 
 // Each entry is a step of demand 3's history.

@@ -84,7 +84,7 @@ pub fn device_refusal(device: InputDeviceId) -> RouterOutcome
 }
 
 // What is found of a header's view: why it is no live view, its window and the revision of its metrics.
-#[derive(Drop)]
+#[derive(Clone, Copy)]
 pub struct FoundView {
     pub unknown: Outcome,
     pub window: GenerationalHandle,

@@ -5,7 +5,7 @@ ghost use Rattle.input_events.specs.RouterErrors.{router_error_number, router_nu
 use records::error::{CompositionError, Outcome};
 
 // The Rust's errors in their declared order, the two added by the port, and the registry's refusals.
-#[derive(Drop)]
+#[derive(Clone, Copy)]
 pub enum PlatformInputError {
     InvalidDevice,
     InvalidSequence,
@@ -22,7 +22,7 @@ pub enum PlatformInputError {
     Composition(CompositionError),
 }
 
-#[derive(Drop)]
+#[derive(Clone, Copy)]
 pub enum RouterOutcome {
     Accepted,
     Refused(PlatformInputError),

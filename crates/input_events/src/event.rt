@@ -3,7 +3,7 @@
 use handles::GenerationalHandle;
 use maps::keys::InputDeviceId;
 
-#[derive(Drop)]
+#[derive(Clone, Copy)]
 pub enum InputDeviceKind {
     Mouse,
     Touch,
@@ -12,7 +12,7 @@ pub enum InputDeviceKind {
     Gamepad,
 }
 
-#[derive(Drop)]
+#[derive(Clone, Copy)]
 pub struct InputModifiers {
     pub shift: bool,
     pub control: bool,
@@ -22,13 +22,13 @@ pub struct InputModifiers {
     pub num_lock: bool,
 }
 
-#[derive(Drop)]
+#[derive(Clone, Copy)]
 pub enum KeyPhase {
     Down,
     Up,
 }
 
-#[derive(Drop)]
+#[derive(Clone, Copy)]
 pub enum PointerPhase {
     Down,
     Move,
@@ -36,14 +36,14 @@ pub enum PointerPhase {
     Cancel,
 }
 
-#[derive(Drop)]
+#[derive(Clone, Copy)]
 pub enum WheelUnit {
     Pixel,
     Line,
     Page,
 }
 
-#[derive(Drop)]
+#[derive(Clone, Copy)]
 pub enum CompositionPhase {
     Start,
     Update,
@@ -51,19 +51,19 @@ pub enum CompositionPhase {
     Cancel,
 }
 
-#[derive(Drop)]
+#[derive(Clone, Copy)]
 pub enum GamepadMapping {
     Standard,
     Raw,
 }
 
-#[derive(Drop)]
+#[derive(Clone, Copy)]
 pub enum OptionalButton {
     None,
     Some(u8),
 }
 
-#[derive(Drop)]
+#[derive(Clone, Copy)]
 pub struct PlatformInputHeader {
     pub sequence: u64,
     pub timestamp_micros: u64,
@@ -75,7 +75,7 @@ pub struct PlatformInputHeader {
     pub modifiers: InputModifiers,
 }
 
-#[derive(Drop)]
+#[derive(Clone, Copy)]
 pub struct PointerInput {
     pub contact: u32,
     pub phase: PointerPhase,
@@ -90,7 +90,7 @@ pub struct PointerInput {
     pub changed_button: OptionalButton,
 }
 
-#[derive(Drop)]
+#[derive(Clone, Copy)]
 pub struct WheelInput {
     pub contact: u32,
     pub x_milli: i32,
@@ -100,27 +100,27 @@ pub struct WheelInput {
     pub unit: WheelUnit,
 }
 
-#[derive(Drop)]
+#[derive(Clone, Copy)]
 pub struct KeyInput {
     pub phase: KeyPhase,
     pub physical_key: u32,
     pub repeat: bool,
 }
 
-#[derive(Drop)]
+#[derive(Clone, Copy)]
 pub struct ShortcutInput {
     pub class_mask: u64,
     pub system: bool,
 }
 
 // A text, by its length in bytes.
-#[derive(Drop)]
+#[derive(Clone, Copy)]
 pub struct TextInput {
     pub length: u32,
 }
 
 // The text of an input method, by its length in bytes, and what is selected of it.
-#[derive(Drop)]
+#[derive(Clone, Copy)]
 pub struct CompositionInput {
     pub phase: CompositionPhase,
     pub length: u32,
@@ -128,13 +128,13 @@ pub struct CompositionInput {
     pub selection_end: u32,
 }
 
-#[derive(Drop)]
+#[derive(Clone, Copy)]
 pub struct GamepadInput {
     pub connected: bool,
     pub mapping: GamepadMapping,
 }
 
-#[derive(Drop)]
+#[derive(Clone, Copy)]
 pub enum PlatformInputPayload {
     Pointer(PointerInput),
     Wheel(WheelInput),
@@ -148,7 +148,7 @@ pub enum PlatformInputPayload {
     DeviceDisconnected,
 }
 
-#[derive(Drop)]
+#[derive(Clone, Copy)]
 pub struct PlatformInputEvent {
     pub header: PlatformInputHeader,
     pub payload: PlatformInputPayload,

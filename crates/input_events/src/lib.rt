@@ -1,5 +1,8 @@
 // The events of the platform, and the rules that read an event alone: its checks, the press that it concerns, and what
 // it asks the registry.
+
+#![tactic(auto)]
+
 pub mod arbitration_event;
 pub mod checks;
 pub mod error;

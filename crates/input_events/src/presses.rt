@@ -12,14 +12,14 @@ use handles::OptionalHandle;
 use maps::keys::{BindingKey, CompositionPointerId, DeviceKey, InputDeviceId};
 use records::trace::{Deliveries, InputDelivery};
 
-#[derive(Drop)]
+#[derive(Clone, Copy)]
 pub enum OptionalPress {
     None,
     Some(BindingKey),
 }
 
 // What an accepted event does to a press. Only an event with a receiver opens one.
-#[derive(Drop)]
+#[derive(Clone, Copy)]
 pub enum Effect {
     Opens(BindingKey),
     Ends(BindingKey),

@@ -12,7 +12,7 @@ use records::trace::Deliveries;
 use release_lists::releases::Releases;
 
 // What became of an event; of a refused one nothing did.
-#[derive(Drop)]
+#[derive(Clone, Copy)]
 pub enum RouteKind {
     Nothing,
     Disconnected,
@@ -22,7 +22,7 @@ pub enum RouteKind {
 
 // The Rust's report without its copy of the event. The arbitration stands if the event was arbitrated, and is blank
 // else.
-#[derive(Drop)]
+#[derive(Clone, Copy)]
 pub struct PlatformInputRoutingReport {
     pub kind: RouteKind,
     pub arbitration: ArbitrationResult,
@@ -31,7 +31,7 @@ pub struct PlatformInputRoutingReport {
     pub composition_revision: u64,
 }
 
-#[derive(Drop)]
+#[derive(Clone, Copy)]
 pub struct Routed {
     pub outcome: RouterOutcome,
     pub report: PlatformInputRoutingReport,

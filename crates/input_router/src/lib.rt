@@ -1,4 +1,7 @@
 // The router's own state: its start, its damage test, the order of events, the open presses and their releases.
+
+#![tactic(auto)]
+
 pub mod damage;
 pub mod order;
 pub mod presses;

@@ -6,7 +6,7 @@ use crate::router::PlatformInputRouter;
 use maps::keys::InputDeviceId;
 use maps::sequences::{DeviceSequence, OptionalSequence};
 
-#[derive(Drop)]
+#[derive(Clone, Copy)]
 pub enum Order {
     InOrder,
     InvalidSequence,

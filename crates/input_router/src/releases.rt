@@ -12,7 +12,7 @@ use maps::tests::{EntryTest, KeyTest};
 use release_lists::releases::{Releases, by_panel};
 
 // The answer of a router release: a damaged router is refused 42 and stays as it came.
-#[derive(Drop)]
+#[derive(Clone, Copy)]
 pub struct Released {
     pub outcome: RouterOutcome,
     pub releases: Releases,

@@ -6,7 +6,7 @@ use maps::bindings::Bindings;
 use maps::sequences::DeviceSequences;
 
 // The presses of all three kinds stand in one table, whose order is the order of releases.
-#[derive(Drop)]
+#[derive(Clone, Copy)]
 pub struct PlatformInputRouter {
     pub max_active_bindings: u64,
     pub last_timestamp_micros: u64,
@@ -14,7 +14,7 @@ pub struct PlatformInputRouter {
     pub bindings: Bindings,
 }
 
-#[derive(Drop)]
+#[derive(Clone, Copy)]
 pub enum StartOutcome {
     Accepted,
     Capacity,
@@ -22,7 +22,7 @@ pub enum StartOutcome {
 }
 
 // The answer of a start: the router stands if it is accepted, and is damaged else.
-#[derive(Drop)]
+#[derive(Clone, Copy)]
 pub struct RouterStart {
     pub outcome: StartOutcome,
     pub router: PlatformInputRouter,

@@ -13,14 +13,14 @@ use maps::keys::binding_key;
 use records::error::Outcome;
 use records::surface::SurfaceTable;
 
-#[derive(Drop)]
+#[derive(Clone, Copy)]
 pub enum OptionalBinding {
     None,
     Some(Binding),
 }
 
 // The presses stand if the release is accepted; on a refusal the router has lost the kinds before the closed panel's.
-#[derive(Drop)]
+#[derive(Clone, Copy)]
 pub struct ViewReleased {
     pub outcome: Outcome,
     pub presses: Bindings,

@@ -1,5 +1,8 @@
 // Lines taken out of the chunks that an input arrives in. A line's bytes gather in a buffer that the caller lends;
 // a line that is longer than the buffer fills it, and its other bytes are dropped.
+
+#![tactic(auto)]
+
 ghost use Rattle.std.specs.Prelude.{◌≡◌, List, ℕ, take};
 ghost use Rattle.script.specs.Lines.{line_of, is_skipped};
 ghost use Rattle.line_input.specs.Claims.{RoundTripClaims};
@@ -11,7 +14,7 @@ use script::words::find;
 
 // What is known once bytes are taken: where the chunk goes on, how much of the line is there, and whether that is all
 // of it.
-#[derive(Drop)]
+#[derive(Clone, Copy)]
 pub struct Taken {
     pub next: usize,
     pub len: usize,

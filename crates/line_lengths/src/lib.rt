@@ -1,4 +1,7 @@
 // How long an answer line of `replay` is at most, so that a buffer of 524,288 bytes holds every line whole.
+
+#![tactic(auto)]
+
 ghost use Rattle.line_lengths.specs.Claims.{LineLengthClaims};
 ghost use Rattle.line_lengths.specs.Lengths.{StateLengths};
 

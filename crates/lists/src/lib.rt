@@ -1,4 +1,7 @@
 // Definitions and laws over lists, orders and maps that every table shares. They stand in specs/ and proofs/.
+
+#![tactic(auto)]
+
 ghost use Rattle.std.specs.Prelude.{◌≡◌, ◌&&◌};
 
 // Both hold. A test over a table gathers its answers with it.

@@ -10,20 +10,20 @@ use crate::keys::{BindingKey, CompositionPointerId, MapKey};
 use crate::tests::{EntryTest, KeyTest};
 use handles::{GenerationalHandle, OptionalHandle};
 
-#[derive(Drop)]
+#[derive(Clone, Copy)]
 pub struct Binding {
     pub key: BindingKey,
     pub surface: GenerationalHandle,
 }
 
-#[derive(Drop)]
+#[derive(Clone, Copy)]
 pub struct Bindings {
     pub entries: [Binding; 128],
     pub len: usize,
 }
 
 // A map with an entry in its place, or the map as it was where the entry was not accepted.
-#[derive(Drop)]
+#[derive(Clone, Copy)]
 pub struct BindingInsertion {
     pub bindings: Bindings,
     pub inserted: bool,

@@ -11,21 +11,21 @@ use crate::tests::{EntryTest, KeyTest};
 use handles::{GenerationalHandle, OptionalHandle};
 
 #[repr(C)]
-#[derive(Drop)]
+#[derive(Clone, Copy)]
 pub struct Capture {
     pub pointer: CompositionPointerId,
     pub surface: GenerationalHandle,
 }
 
 #[repr(C)]
-#[derive(Drop)]
+#[derive(Clone, Copy)]
 pub struct PointerCaptures {
     pub entries: [Capture; 32],
     pub len: usize,
 }
 
 // A map with an entry in its place, or the map as it was where the entry was not accepted.
-#[derive(Drop)]
+#[derive(Clone, Copy)]
 pub struct CaptureInsertion {
     pub captures: PointerCaptures,
     pub inserted: bool,

@@ -4,7 +4,7 @@ ghost use Rattle.maps.specs.Keys.{pointer_valid, device_valid, pointer_key, devi
 
 // A pointer: a contact of a device.
 #[repr(C)]
-#[derive(Drop)]
+#[derive(Clone, Copy)]
 pub struct CompositionPointerId {
     pub device: u64,
     pub device_generation: u32,
@@ -33,7 +33,7 @@ impl CompositionPointerId {
 }
 
 #[repr(C)]
-#[derive(Drop)]
+#[derive(Clone, Copy)]
 pub struct InputDeviceId {
     pub value: u64,
     pub generation: u32,
@@ -51,14 +51,14 @@ impl InputDeviceId {
 }
 
 // A key of a device.
-#[derive(Drop)]
+#[derive(Clone, Copy)]
 pub struct DeviceKey {
     pub device: InputDeviceId,
     pub physical_key: u32,
 }
 
 // What an open press is a press of.
-#[derive(Drop)]
+#[derive(Clone, Copy)]
 pub enum BindingKey {
     Pointer(CompositionPointerId),
     Key(DeviceKey),
@@ -67,7 +67,7 @@ pub enum BindingKey {
 
 // A key of any kind as numbers: the kind, the device with its generation, and the contact or key.
 #[repr(C)]
-#[derive(Drop)]
+#[derive(Clone, Copy)]
 pub struct MapKey {
     pub kind: u32,
     pub device: u64,

@@ -1,4 +1,7 @@
 // Bounded maps with strictly rising keys: the captures of a view, the sequence numbers of devices, the open presses.
+
+#![tactic(auto)]
+
 pub mod bindings;
 pub mod captures;
 pub mod keys;

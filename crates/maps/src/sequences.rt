@@ -10,27 +10,27 @@ use crate::keys::{InputDeviceId, MapKey};
 use crate::tests::KeyTest;
 
 #[repr(C)]
-#[derive(Drop)]
+#[derive(Clone, Copy)]
 pub struct DeviceSequence {
     pub device: InputDeviceId,
     pub sequence: u64,
 }
 
 #[repr(C)]
-#[derive(Drop)]
+#[derive(Clone, Copy)]
 pub struct DeviceSequences {
     pub entries: [DeviceSequence; 32],
     pub len: usize,
 }
 
-#[derive(Drop)]
+#[derive(Clone, Copy)]
 pub enum OptionalSequence {
     None,
     Some(u64),
 }
 
 // A map with an entry in its place, or the map as it was where the entry was not accepted.
-#[derive(Drop)]
+#[derive(Clone, Copy)]
 pub struct SequenceInsertion {
     pub sequences: DeviceSequences,
     pub inserted: bool,

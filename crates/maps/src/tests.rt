@@ -6,7 +6,7 @@ use crate::keys::{InputDeviceId, MapKey};
 use handles::GenerationalHandle;
 
 // By the key: lesser keys, greater keys, other keys than the one given; keys of a device, or of any other.
-#[derive(Drop)]
+#[derive(Clone, Copy)]
 pub enum KeyTest {
     Below(MapKey),
     Above(MapKey),
@@ -16,7 +16,7 @@ pub enum KeyTest {
 }
 
 // By the key, or by the panel that the entry names.
-#[derive(Drop)]
+#[derive(Clone, Copy)]
 pub enum EntryTest {
     Key(KeyTest),
     OnSurface(GenerationalHandle),

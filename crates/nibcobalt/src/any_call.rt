@@ -11,7 +11,7 @@ use counter_memory::memory::{CounterMemory, counter_of, memory_of};
 use host_message::message::{Message, is_message};
 use host_message::registrations::registrations_of;
 
-#[derive(Drop)]
+#[derive(Clone, Copy)]
 pub struct Called {
     pub status: Status,
     pub memory: CounterMemory,

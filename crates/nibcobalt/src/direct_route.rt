@@ -11,12 +11,12 @@ use counter::step::router_step;
 use counter_memory::memory::{CounterMemory, counter_of, memory_of};
 
 #[repr(C)]
-#[derive(Drop)]
+#[derive(Clone, Copy)]
 pub struct RouteMessage {
     pub call: [u64; 32],
 }
 
-#[derive(Drop)]
+#[derive(Clone, Copy)]
 pub struct RouteCalled {
     pub status: Status,
     pub memory: CounterMemory,

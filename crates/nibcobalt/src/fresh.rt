@@ -12,7 +12,7 @@ use records::error::number;
 
 // What a registry and a router are started with.
 #[repr(C)]
-#[derive(Drop)]
+#[derive(Clone, Copy)]
 pub struct Start {
     pub session: GenerationalHandle,
     pub session_epoch: u64,
@@ -22,7 +22,7 @@ pub struct Start {
     pub max_active_bindings: u64,
 }
 
-#[derive(Drop)]
+#[derive(Clone, Copy)]
 pub struct Started {
     pub status: Status,
     pub memory: CounterMemory,

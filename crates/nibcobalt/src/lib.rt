@@ -1,5 +1,8 @@
 // The library that a host links: each exported function works on a counter in the host's own memory, altered in place,
 // over a function that takes the memory and what a host hands in by value.
+
+#![tactic(auto)]
+
 pub mod any_call;
 pub mod direct_route;
 pub mod entries;

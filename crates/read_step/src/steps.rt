@@ -15,7 +15,7 @@ use composition_state::registry::CompositionRegistry;
 use input_router::router::PlatformInputRouter;
 use records::error::{CompositionError, Outcome};
 
-#[derive(Drop)]
+#[derive(Clone, Copy)]
 pub struct ReadStepped {
     pub outcome: Outcome,
     pub shown: Shown,

@@ -5,7 +5,7 @@ ghost use Rattle.records.specs.Errors.{error_number, number_of, then_refusal, re
 use handles::arena::SlotStatus;
 
 // The Rust's errors in their declared order, and the two added by the port.
-#[derive(Drop)]
+#[derive(Clone, Copy)]
 pub enum CompositionError {
     InvalidConfig,
     InvalidOwner,
@@ -33,7 +33,7 @@ pub enum CompositionError {
     Damaged,
 }
 
-#[derive(Drop)]
+#[derive(Clone, Copy)]
 pub enum Outcome {
     Accepted,
     Refused(CompositionError),

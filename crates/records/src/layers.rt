@@ -13,14 +13,14 @@ use handles::GenerationalHandle;
 use handles::arena::{Arena, SlotStatus};
 
 #[repr(C)]
-#[derive(Drop)]
+#[derive(Clone, Copy)]
 pub struct Layers {
     pub items: [GenerationalHandle; 16],
     pub len: usize,
 }
 
 // Which layers a pass keeps: those below a panel, above it, or all others.
-#[derive(Drop)]
+#[derive(Clone, Copy)]
 pub enum LayerTest {
     Below(GenerationalHandle),
     Above(GenerationalHandle),

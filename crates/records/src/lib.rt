@@ -1,5 +1,8 @@
 // What the registry stores: panels and their layers, views, shortcuts and traces, each with what reads and changes it;
 // and the refusals.
+
+#![tactic(auto)]
+
 pub mod error;
 pub mod layers;
 pub mod shortcut;

@@ -3,14 +3,14 @@ ghost use Rattle.std.specs.Prelude.{◌≡◌, [], ◌+◌, ◌<◌, length};
 ghost use Rattle.lists.specs.Tables.{entries_of, packed, pushed};
 ghost use Rattle.records.specs.Shortcuts.{shortcuts, is_of_other_slot, shortcuts_without};
 
-#[derive(Drop)]
+#[derive(Clone, Copy)]
 pub enum ShortcutScope {
     View,
     Window,
     Session,
 }
 
-#[derive(Drop)]
+#[derive(Clone, Copy)]
 pub struct SurfaceShortcutRegistration {
     pub class_mask: u64,
     pub scope: ShortcutScope,
@@ -18,13 +18,13 @@ pub struct SurfaceShortcutRegistration {
 }
 
 // A registration with the slot of its panel.
-#[derive(Drop)]
+#[derive(Clone, Copy)]
 pub struct SlotShortcut {
     pub slot: u32,
     pub registration: SurfaceShortcutRegistration,
 }
 
-#[derive(Drop)]
+#[derive(Clone, Copy)]
 pub struct Shortcuts {
     pub entries: [SlotShortcut; 256],
     pub len: usize,

@@ -9,14 +9,14 @@ use geometry::transform::SurfaceTransform;
 use handles::GenerationalHandle;
 use handles::arena::Arena;
 
-#[derive(Drop)]
+#[derive(Clone, Copy)]
 pub enum SurfaceKind {
     Game,
     Ui,
     Diagnostics,
 }
 
-#[derive(Drop)]
+#[derive(Clone, Copy)]
 pub enum SurfaceInputPolicy {
     Observe,
     Passthrough,
@@ -24,7 +24,7 @@ pub enum SurfaceInputPolicy {
     Exclusive,
 }
 
-#[derive(Drop)]
+#[derive(Clone, Copy)]
 pub struct SurfaceDescriptor {
     pub view: GenerationalHandle,
     pub kind: SurfaceKind,
@@ -34,13 +34,13 @@ pub struct SurfaceDescriptor {
     pub geometry: SurfaceGeometry,
 }
 
-#[derive(Drop)]
+#[derive(Clone, Copy)]
 pub struct SurfaceRecord {
     pub descriptor: SurfaceDescriptor,
 }
 
 // The slots of the panels, and a record for each slot.
-#[derive(Drop)]
+#[derive(Clone, Copy)]
 pub struct SurfaceTable {
     pub arena: Arena,
     pub records: [SurfaceRecord; 64],

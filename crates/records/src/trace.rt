@@ -7,7 +7,7 @@ use handles::{GenerationalHandle, OptionalHandle};
 use maps::keys::CompositionPointerId;
 
 // The Rust's events; the hits of the two stack events stand beside them.
-#[derive(Drop)]
+#[derive(Clone, Copy)]
 pub enum ArbitrationEvent {
     Pointer {
         hit: OptionalHandle,
@@ -36,27 +36,27 @@ pub enum ArbitrationEvent {
 }
 
 #[repr(C)]
-#[derive(Drop)]
+#[derive(Clone, Copy)]
 pub struct Hits {
     pub items: [GenerationalHandle; 16],
     pub len: usize,
 }
 
 #[repr(C)]
-#[derive(Drop)]
+#[derive(Clone, Copy)]
 pub struct InputDelivery {
     pub surface: GenerationalHandle,
     pub observed: bool,
 }
 
 #[repr(C)]
-#[derive(Drop)]
+#[derive(Clone, Copy)]
 pub struct Deliveries {
     pub items: [InputDelivery; 16],
     pub len: usize,
 }
 
-#[derive(Drop)]
+#[derive(Clone, Copy)]
 pub struct CompositionTrace {
     pub revision: u64,
     pub view: GenerationalHandle,
@@ -66,7 +66,7 @@ pub struct CompositionTrace {
     pub consumed_by: OptionalHandle,
 }
 
-#[derive(Drop)]
+#[derive(Clone, Copy)]
 pub struct Traces {
     pub items: [CompositionTrace; 32],
     pub len: usize,

@@ -9,7 +9,7 @@ use handles::arena::Arena;
 use handles::{GenerationalHandle, OptionalHandle};
 use maps::captures::PointerCaptures;
 
-#[derive(Drop)]
+#[derive(Clone, Copy)]
 pub struct ViewRecord {
     pub window: GenerationalHandle,
     pub metrics: ViewMetrics,
@@ -20,7 +20,7 @@ pub struct ViewRecord {
     pub ime: OptionalHandle,
 }
 
-#[derive(Drop)]
+#[derive(Clone, Copy)]
 pub struct ViewInputState {
     pub focused: OptionalHandle,
     pub pointer_capture: OptionalHandle,
@@ -28,7 +28,7 @@ pub struct ViewInputState {
 }
 
 // The slots of the views, and a record for each slot.
-#[derive(Drop)]
+#[derive(Clone, Copy)]
 pub struct ViewTable {
     pub arena: Arena,
     pub records: [ViewRecord; 16],

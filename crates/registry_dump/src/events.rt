@@ -7,7 +7,7 @@ use maps::keys::CompositionPointerId;
 use records::trace::ArbitrationEvent;
 
 // What a kind has not is none or 0.
-#[derive(Drop)]
+#[derive(Clone, Copy)]
 pub struct EventFields {
     pub kind: u64,
     pub pointer: CompositionPointerId,

@@ -1,4 +1,7 @@
 // The numbers of a registry: as text, and as the digest of its dump.
+
+#![tactic(auto)]
+
 pub mod arenas;
 pub mod events;
 pub mod panels;

@@ -1,4 +1,7 @@
 // The calls on the registry alone that list nothing, each group as one function of the call.
+
+#![tactic(auto)]
+
 pub mod steps;
 
 ghost use Rattle.registry_step.specs.Claims.{StepClaims};

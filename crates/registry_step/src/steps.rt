@@ -25,7 +25,7 @@ use handles::OptionalHandle;
 use records::error::Outcome;
 
 // What such a call answers, and the registry after it. What a call does not answer is `None` or `Nothing`.
-#[derive(Drop)]
+#[derive(Clone, Copy)]
 pub struct RegistryStepped {
     pub outcome: Outcome,
     pub handle: OptionalHandle,

@@ -10,7 +10,7 @@ use maps::captures::{Capture, PointerCaptures};
 use maps::keys::CompositionPointerId;
 
 // Captures by view slot, then pointer: up to 32 in each of 16 views.
-#[derive(Drop)]
+#[derive(Clone, Copy)]
 pub struct CaptureList {
     pub items: [Capture; 512],
     pub len: usize,

@@ -1,3 +1,6 @@
 // What a loss lists: the captures that it ends, and the releases of presses and captures.
+
+#![tactic(auto)]
+
 pub mod captures;
 pub mod releases;

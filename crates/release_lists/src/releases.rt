@@ -17,7 +17,7 @@ use maps::tests::EntryTest;
 
 // A release says by its key what is synthesized: a pointer's cancel, a key's up or a gamepad's disconnect.
 // The longest list is that of 128 presses and 512 captures.
-#[derive(Drop)]
+#[derive(Clone, Copy)]
 pub struct Releases {
     pub items: [Binding; 640],
     pub len: usize,

@@ -17,7 +17,7 @@ use line_input::{is_line_skipped, parse_line, take_line};
 
 // After a turn: the session, how many bytes of the next line are there, where the chunk goes on, and how many bytes of
 // an answer stand at the front of the buffer; whether a line ended, and how many bytes of it are in the line's buffer.
-#[derive(Drop)]
+#[derive(Clone, Copy)]
 pub struct Turn {
     pub session: Session,
     pub len: usize,

@@ -1,4 +1,7 @@
 // Runs a script from standard input and writes one answer line for each call.
+
+#![tactic(auto)]
+
 mod answered;
 mod lines;
 mod messages;
@@ -13,14 +16,14 @@ use crate::session::Session;
 use libc::{STDIN_FILENO, STDOUT_FILENO};
 
 // How many lines have ended, and whether every answer so far could be written.
-#[derive(Drop)]
+#[derive(Clone, Copy)]
 struct Told {
     lines: u64,
     is_written: bool,
 }
 
 // The session, how many bytes of the next line have come, and what was told.
-#[derive(Drop)]
+#[derive(Clone, Copy)]
 struct Reading {
     session: Session,
     len: usize,
@@ -28,7 +31,7 @@ struct Reading {
 }
 
 // What is read after an input, and whether more may come.
-#[derive(Drop)]
+#[derive(Clone, Copy)]
 struct Served {
     reading: Reading,
     is_open: bool,

@@ -12,7 +12,7 @@ use counter::step::{Counter, step};
 use script_calls::script_call::{ScriptCall, SessionCall};
 
 // How many calls were answered, whether digests are shown, and the counter.
-#[derive(Drop)]
+#[derive(Clone, Copy)]
 pub struct Session {
     pub calls: u64,
     pub are_digests_shown: bool,
@@ -20,7 +20,7 @@ pub struct Session {
 }
 
 // The session after a line, and the place after the answer in the buffer.
-#[derive(Drop)]
+#[derive(Clone, Copy)]
 pub struct Answered {
     pub session: Session,
     pub at: usize,

@@ -10,7 +10,7 @@ use input_router::router::{PlatformInputRouter, StartOutcome, start_number};
 use records::error::{Outcome, number};
 use script_calls::script_call::Start;
 
-#[derive(Drop)]
+#[derive(Clone, Copy)]
 pub struct Started {
     pub number: u64,
     pub counter: Counter,

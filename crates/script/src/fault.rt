@@ -7,7 +7,7 @@ use crate::verb::{Verb, verb_named};
 use crate::words::find;
 
 // `None` stands for a line that names a verb and has numbers behind it.
-#[derive(Drop)]
+#[derive(Clone, Copy)]
 pub enum LineFault {
     None,
     LongLine,

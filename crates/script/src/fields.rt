@@ -7,50 +7,50 @@ ghost use Rattle.script.specs.Ranges.{unsigned_of, is_within, signed_of, is_with
 use crate::line::Fields;
 use crate::number::Number;
 
-#[derive(Drop)]
+#[derive(Clone, Copy)]
 pub struct FieldU64 {
     pub value: u64,
     pub fits: bool,
 }
 
-#[derive(Drop)]
+#[derive(Clone, Copy)]
 pub struct FieldU32 {
     pub value: u32,
     pub fits: bool,
 }
 
-#[derive(Drop)]
+#[derive(Clone, Copy)]
 pub struct FieldU16 {
     pub value: u16,
     pub fits: bool,
 }
 
-#[derive(Drop)]
+#[derive(Clone, Copy)]
 pub struct FieldU8 {
     pub value: u8,
     pub fits: bool,
 }
 
-#[derive(Drop)]
+#[derive(Clone, Copy)]
 pub struct FieldI64 {
     pub value: i64,
     pub fits: bool,
 }
 
-#[derive(Drop)]
+#[derive(Clone, Copy)]
 pub struct FieldI32 {
     pub value: i32,
     pub fits: bool,
 }
 
-#[derive(Drop)]
+#[derive(Clone, Copy)]
 pub struct FieldI16 {
     pub value: i16,
     pub fits: bool,
 }
 
 // A field that is 0 or 1.
-#[derive(Drop)]
+#[derive(Clone, Copy)]
 pub struct FieldFlag {
     pub value: bool,
     pub fits: bool,

@@ -1,4 +1,7 @@
 // Lines of a call script: a verb, and numbers each after one space.
+
+#![tactic(auto)]
+
 pub mod fault;
 pub mod fields;
 pub mod line;

@@ -9,14 +9,14 @@ use crate::verb::{Verb, verb_named};
 use crate::words::find;
 
 // The numbers of a line. Unused places hold 0.
-#[derive(Drop)]
+#[derive(Clone, Copy)]
 pub struct Fields {
     pub numbers: [Number; 256],
     pub count: usize,
 }
 
 // A call. A line that is none has the verb `Unknown`, and its fields then mean nothing.
-#[derive(Drop)]
+#[derive(Clone, Copy)]
 pub struct Line {
     pub verb: Verb,
     pub fields: Fields,

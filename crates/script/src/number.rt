@@ -2,21 +2,21 @@
 ghost use Rattle.std.specs.Prelude.{◌≡◌, false};
 ghost use Rattle.script.specs.Numbers.{push_digit, digits_of, magnitude_of, plain_of, negated_of, number_of};
 
-#[derive(Drop)]
+#[derive(Clone, Copy)]
 pub struct Number {
     pub negative: bool,
     pub magnitude: u64,
 }
 
 // The number that digits make, as long as they are digits and it fits 64 bits.
-#[derive(Drop)]
+#[derive(Clone, Copy)]
 pub struct Magnitude {
     pub value: u64,
     pub fits: bool,
 }
 
 // What a word says: a number, or 0 where it is none.
-#[derive(Drop)]
+#[derive(Clone, Copy)]
 pub struct Reading {
     pub number: Number,
     pub is_number: bool,

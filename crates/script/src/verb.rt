@@ -5,7 +5,7 @@ ghost use Rattle.script.specs.Verbs.{verbs, verb_named};
 use crate::words::index_of_word;
 
 // The script's own: digests, a new registry, a new router, dumps.
-#[derive(Drop)]
+#[derive(Clone, Copy)]
 pub enum SessionVerb {
     Digest,
     New,
@@ -16,7 +16,7 @@ pub enum SessionVerb {
 }
 
 // Windows, views and panels.
-#[derive(Drop)]
+#[derive(Clone, Copy)]
 pub enum PanelVerb {
     CreateWindow,
     CloseWindow,
@@ -29,7 +29,7 @@ pub enum PanelVerb {
 }
 
 // Focus, captures and the input method.
-#[derive(Drop)]
+#[derive(Clone, Copy)]
 pub enum InputVerb {
     SetFocus,
     CapturePointer,
@@ -41,13 +41,13 @@ pub enum InputVerb {
     SuspendViewInput,
 }
 
-#[derive(Drop)]
+#[derive(Clone, Copy)]
 pub enum CloseVerb {
     CloseSurface,
     Shutdown,
 }
 
-#[derive(Drop)]
+#[derive(Clone, Copy)]
 pub enum RouterVerb {
     Route,
     ReleaseSurface,
@@ -55,7 +55,7 @@ pub enum RouterVerb {
 }
 
 // The calls that alter nothing.
-#[derive(Drop)]
+#[derive(Clone, Copy)]
 pub enum ReadVerb {
     HitTestStack,
     InversePoint,
@@ -71,7 +71,7 @@ pub enum ReadVerb {
 }
 
 // The calls on the registry and the router that stand.
-#[derive(Drop)]
+#[derive(Clone, Copy)]
 pub enum StepVerb {
     Panel(PanelVerb),
     Input(InputVerb),
@@ -84,7 +84,7 @@ pub enum StepVerb {
 }
 
 // What a line asks for. `Unknown` stands for a line that is no call.
-#[derive(Drop)]
+#[derive(Clone, Copy)]
 pub enum Verb {
     Unknown,
     Session(SessionVerb),

@@ -8,13 +8,13 @@ use lists::both;
 use script::fields::{FieldFlag, FieldU32, FieldU64, as_flag, as_u32, as_u64, field};
 use script::line::Fields;
 
-#[derive(Drop)]
+#[derive(Clone, Copy)]
 pub struct HandleField {
     pub handle: GenerationalHandle,
     pub fits: bool,
 }
 
-#[derive(Drop)]
+#[derive(Clone, Copy)]
 pub struct LimitsField {
     pub limits: CompositionLimits,
     pub fits: bool,

@@ -1,4 +1,7 @@
 // A line's verb and numbers as a call with its arguments.
+
+#![tactic(auto)]
+
 pub mod groups;
 pub mod line_lists;
 pub mod list_fields;

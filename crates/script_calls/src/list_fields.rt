@@ -13,21 +13,21 @@ use records::trace::Hits;
 use script::fields::{FieldI16, as_at_most, as_i16, field};
 use script::line::Fields;
 
-#[derive(Drop)]
+#[derive(Clone, Copy)]
 pub struct RegistrationField {
     pub registration: SurfaceShortcutRegistration,
     pub fits: bool,
 }
 
 // `hits.len` is the count, also where it is over 16 and only the first 16 stand.
-#[derive(Drop)]
+#[derive(Clone, Copy)]
 pub struct HitsField {
     pub hits: Hits,
     pub fits: bool,
 }
 
 // `len` is the count, also where it is over 64 and only the first 64 stand.
-#[derive(Drop)]
+#[derive(Clone, Copy)]
 pub struct RegistrationsField {
     pub items: [SurfaceShortcutRegistration; 64],
     pub len: usize,

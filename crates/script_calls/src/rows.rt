@@ -13,7 +13,7 @@ use script::number::Number;
 use script::words::find;
 
 // The first 32 numbers of a call, filled from the front.
-#[derive(Drop)]
+#[derive(Clone, Copy)]
 pub struct Words {
     pub items: [u64; 32],
     pub len: usize,
@@ -21,7 +21,7 @@ pub struct Words {
 
 // What was read of a line: the call's numbers, the place behind the last field, and whether each field was in its
 // range.
-#[derive(Drop)]
+#[derive(Clone, Copy)]
 pub struct Asked {
     pub words: Words,
     pub end: usize,

@@ -4,7 +4,7 @@ use composition_state::registry::CompositionLimits;
 use handles::GenerationalHandle;
 
 // The arguments of `new` and `new_at`; `new` starts at revision 0 and generation 1.
-#[derive(Drop)]
+#[derive(Clone, Copy)]
 pub struct Start {
     pub session: GenerationalHandle,
     pub session_epoch: u64,
@@ -14,7 +14,7 @@ pub struct Start {
 }
 
 // The script's own calls. `Router` has the new router's limit, and `State` and `RouterState` ask for the dumps.
-#[derive(Drop)]
+#[derive(Clone, Copy)]
 pub enum SessionCall {
     Digest(bool),
     New(Start),
@@ -24,7 +24,7 @@ pub enum SessionCall {
 }
 
 // `NoCall` stands for a line that is no call, and `Step` for a call on the registry and the router that stand.
-#[derive(Drop)]
+#[derive(Clone, Copy)]
 pub enum ScriptCall {
     NoCall,
     Session(SessionCall),

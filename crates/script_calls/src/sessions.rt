@@ -8,14 +8,14 @@ use lists::both;
 use script::line::Fields;
 use script::verb::SessionVerb;
 
-#[derive(Drop)]
+#[derive(Clone, Copy)]
 pub struct StartField {
     pub given: Start,
     pub fits: bool,
 }
 
 // `fits` says that the line has the call's number of fields, each in its range.
-#[derive(Drop)]
+#[derive(Clone, Copy)]
 pub struct AskedSession {
     pub call: SessionCall,
     pub fits: bool,

@@ -1,4 +1,7 @@
 // That a shutdown is the Rust's steps, none of which is refused.
+
+#![tactic(auto)]
+
 ghost use Rattle.std.specs.Prelude.{◌≡◌};
 ghost use Rattle.composition_close.specs.Shutdown.{shutdown_of};
 ghost use Rattle.shutdown_steps.specs.Steps.{shutdown_by_steps};

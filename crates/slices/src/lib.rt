@@ -1,5 +1,8 @@
 // Parts of lent slices of numbers: rows of equal size, and tables with a stored count. The laws of reading and writing
 // them are in proofs/.
+
+#![tactic(auto)]
+
 ghost use Rattle.std.specs.Prelude.{◌≡◌};
 ghost use Rattle.slices.specs.Parts.{least};
 

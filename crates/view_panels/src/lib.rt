@@ -1,4 +1,7 @@
 // One view's panels in layer order, each with its record: what the walk and the hits read.
+
+#![tactic(auto)]
+
 ghost use Rattle.std.specs.Prelude.{◌≡◌};
 ghost use Rattle.view_panels.specs.Panels.{panels_of};
 
@@ -6,7 +9,7 @@ use records::layers::Layers;
 use records::surface::SurfaceRecord;
 
 // The record of the layer at place i stands at place i.
-#[derive(Drop)]
+#[derive(Clone, Copy)]
 pub struct ViewPanels {
     pub layers: Layers,
     pub records: [SurfaceRecord; 16],
