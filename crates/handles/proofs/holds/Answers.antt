@@ -3,7 +3,8 @@ use borrow.Author.Rules.{rules}
 use Rattle.handles.proofs.holds.Goals as goal
 
 pub returns-in-Some : goal.returns-in-Some
-returns-in-Some c =     simp (
+returns-in-Some c =
+    simp (
       ← c.same_handle.ensures,
       c.in-Some.is,
     )

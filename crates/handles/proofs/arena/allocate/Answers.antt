@@ -11,7 +11,8 @@ allocate_freed-requires c = (c.if-a-gt0.true, live_below _ _ _ (sym c.has_room.e
 
 pub returns-then-a-gt0 : goal.returns-then-a-gt0
 unfolding allocated
-returns-then-a-gt0 c =     simp (
+returns-then-a-gt0 c =
+    simp (
       ← c.allocate_freed.ensures,
       lt-ltb _ _ c.if-a-gt0.true,
       c.if-has_room.true,
@@ -19,12 +20,14 @@ returns-then-a-gt0 c =     simp (
     )
 
 pub allocate_unused-requires : goal.allocate_unused-requires
-allocate_unused-requires c =     let room = sym c.has_room.ensures ∙ c.if-has_room.true in
+allocate_unused-requires c =
+    let room = sym c.has_room.ensures ∙ c.if-has_room.true in
     (used_below _ _ _ room c.if-a-gt0.false, live_below _ _ _ room)
 
 pub returns-then-has_room : goal.returns-then-has_room
 unfolding allocated
-returns-then-has_room c =     simp (
+returns-then-has_room c =
+    simp (
       ← c.allocate_unused.ensures,
       le-ltb _ _ c.if-a-gt0.false,
       c.if-has_room.true,
@@ -33,7 +36,8 @@ returns-then-has_room c =     simp (
 
 pub returns : goal.returns
 unfolding allocated
-returns c =     simp (
+returns c =
+    simp (
       c.if-has_room.false,
       ← c.has_room.ensures,
     )

@@ -3,7 +3,8 @@ use borrow.Author.Rules.{rules}
 use Rattle.handles.proofs.arena.allocate_freed.Goals as goal
 
 pub returns : goal.returns
-returns c =     simp (
+returns c =
+    simp (
       ← c.set_slot-issued.ensures,
       ← c.slot_at-s.ensures,
       ← c.free_at-index.ensures,

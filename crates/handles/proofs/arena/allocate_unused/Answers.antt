@@ -3,4 +3,4 @@ use borrow.Author.Rules.{rules}
 use Rattle.handles.proofs.arena.allocate_unused.Goals as goal
 
 pub returns : goal.returns
-returns c =     simp (← c.set_slot-issued.ensures)
+returns c = simp (← c.set_slot-issued.ensures)

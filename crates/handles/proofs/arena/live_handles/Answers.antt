@@ -17,7 +17,8 @@ pub push-live-requires : goal.push-live-requires
 push-live-requires c = turn_room _ _ _ c.loop-i.invariant.1 (omega arith)
 
 pub loop-i-preserved : goal.loop-i-preserved
-loop-i-preserved c =     let d = c in (
+loop-i-preserved c =
+    let d = c in (
       (omega arith, omega arith),
       ⊎_elim
           (λ w. w.2 ∙ w.1.ensures ∙ rw (d.loop-i.invariant.1, c.slot_at-s.ensures) (turn_filled _ _ (omega arith) (rw (sym c.slot_at-s.ensures) w.0.taken)))
@@ -26,5 +27,6 @@ loop-i-preserved c =     let d = c in (
     )
 
 pub returns : goal.returns
-returns c =     let all : c.loop-i.i ≡ used_places c.args.a = omega arith in
+returns c =
+    let all : c.loop-i.i ≡ used_places c.args.a = omega arith in
     c.loop-i.invariant.1 ∙ rw all

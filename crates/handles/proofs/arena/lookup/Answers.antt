@@ -6,7 +6,8 @@ use Rattle.handles.proofs.arena.lookup.Goals as goal
 
 pub returns-then-i-a : goal.returns-then-i-a
 unfolding lookup_of
-returns-then-i-a c =     simp (
+returns-then-i-a c =
+    simp (
       ← c.status_of.ensures,
       ← c.slot_at.ensures,
       lt-ltb _ _ c.if-i-a.true,
@@ -16,7 +17,8 @@ returns-then-i-a c =     simp (
 
 pub returns-else-i-a : goal.returns-else-i-a
 unfolding lookup_of
-returns-else-i-a c =     simp (
+returns-else-i-a c =
+    simp (
       le-ltb _ _ c.if-i-a.false,
       c.if-is_valid.true,
       ← c.is_valid.ensures,
@@ -24,7 +26,8 @@ returns-else-i-a c =     simp (
 
 pub returns-else-is_valid : goal.returns-else-is_valid
 unfolding lookup_of
-returns-else-is_valid c =     simp (
+returns-else-is_valid c =
+    simp (
       c.if-is_valid.false,
       ← c.is_valid.ensures,
     )

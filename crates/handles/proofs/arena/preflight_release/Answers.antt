@@ -14,7 +14,7 @@ pub loop-i-init : goal.loop-i-init
 loop-i-init c = (omega arith, sym (all_none _))
 
 pub loop-i-preserved : goal.loop-i-preserved
-loop-i-preserved c =     (omega arith, simp (all_more, c.both-ok.ensures, c.is_exhausted-exhausted.ensures, c.slot_at.ensures, c.loop-i.invariant.1))
+loop-i-preserved c = (omega arith, simp (all_more, c.both-ok.ensures, c.is_exhausted-exhausted.ensures, c.slot_at.ensures, c.loop-i.invariant.1))
 
 pub returns : goal.returns
 unfolding none_exhausted

@@ -5,10 +5,11 @@ use Rattle.handles.proofs.well_formed.counts_within.Goals as goal
 
 pub returns : goal.returns
 unfolding counts_within
-returns c =     simp (
+returns c =
+    simp (
       ← c.both-2.ensures,
       ← c.both.ensures,
       ← c.is_within-live.ensures,
       ← c.is_within-freed.ensures,
-      ← c.is_Within.ensures,
+      ← c.is_within-used.ensures,
     )

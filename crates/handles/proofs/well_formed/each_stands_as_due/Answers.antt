@@ -13,7 +13,7 @@ pub loop-i-init : goal.loop-i-init
 loop-i-init c = (omega arith, sym (all_none _))
 
 pub loop-i-preserved : goal.loop-i-preserved
-loop-i-preserved c =     (omega arith, simp (all_more, c.both-ok.ensures, c.entries_due-due.ensures, c.occurrences-count.ensures, c.loop-i.invariant.1))
+loop-i-preserved c = (omega arith, simp (all_more, c.both-ok.ensures, c.entries_due-due.ensures, c.occurrences-count.ensures, c.loop-i.invariant.1))
 
 pub returns : goal.returns
 returns c = c.loop-i.invariant.1 ∙ ap (all_below _) (omega arith)

@@ -16,5 +16,6 @@ pub loop-i-preserved : goal.loop-i-preserved
 loop-i-preserved c = (omega arith, c.both-ok.ensures ∙ rw c.loop-i.invariant.1 (sym (all_take (is_below _) c.args.free c.loop-i.i 0 (search rules))))
 
 pub returns : goal.returns
-returns c =     let done : c.loop-i.i ≡ c.args.freed = omega arith in
+returns c =
+    let done : c.loop-i.i ≡ c.args.freed = omega arith in
     c.loop-i.invariant.1 ∙ rw done

@@ -16,13 +16,14 @@ pub overflow_add-count : goal.overflow_add-count
 overflow_add-count c = omega (arith, count_le (is_filled c.args.slots) c.loop-i.i)
 
 pub loop-i-preserved : goal.loop-i-preserved
-loop-i-preserved c = let counted = c.loop-i.invariant.1 in (
-  omega arith,
-  ⊎_elim
-      (λ w. w.1 ∙ simp (count_more, w.0.taken, ← counted))
-      (λ w. w.1 ∙ simp (count_more, w.0.left, ← counted))
-      c.if-s.branch,
-)
+loop-i-preserved c = let counted =
+    c.loop-i.invariant.1 in (
+      omega arith,
+      ⊎_elim
+          (λ w. w.1 ∙ simp (count_more, w.0.taken, ← counted))
+          (λ w. w.1 ∙ simp (count_more, w.0.left, ← counted))
+          c.if-s.branch,
+    )
 
 pub returns : goal.returns
 returns c = c.loop-i.invariant.1 ∙ ap (count_below _) (omega arith)

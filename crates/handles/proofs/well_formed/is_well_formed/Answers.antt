@@ -15,12 +15,14 @@ pub entries_below-below-requires : goal.entries_below-below-requires
 entries_below-below-requires c = (counts _ _ (sym c.counts_within.ensures ∙ c.if-counts_within.true)).freed.table
 
 pub each_stands_as_due-once-requires : goal.each_stands_as_due-once-requires
-each_stands_as_due-once-requires c =     let within = counts _ _ (sym c.counts_within.ensures ∙ c.if-counts_within.true) in
+each_stands_as_due-once-requires c =
+    let within = counts _ _ (sym c.counts_within.ensures ∙ c.if-counts_within.true) in
     (within.used.table, within.freed.table)
 
 pub returns-then-counts_within : goal.returns-then-counts_within
 unfolding well_formed
-returns-then-counts_within c =     simp (
+returns-then-counts_within c =
+    simp (
       ← c.both-then-counts_within-2.ensures,
       ← c.both-then-counts_within.ensures,
       ← c.both.ensures,
@@ -34,7 +36,8 @@ returns-then-counts_within c =     simp (
 
 pub returns : goal.returns
 unfolding well_formed
-returns c =     simp (
+returns c =
+    simp (
       c.if-counts_within.false,
       ← c.counts_within.ensures,
     )

@@ -17,7 +17,8 @@ pub overflow_add-count : goal.overflow_add-count
 overflow_add-count c = omega (arith, occurs_few c.args.slot c.args.free c.loop-i.i)
 
 pub loop-i-preserved : goal.loop-i-preserved
-loop-i-preserved c =     let l = c.args.free in
+loop-i-preserved c =
+    let l = c.args.free in
     let k = c.loop-i.i in
     let counted = c.loop-i.invariant.1 in (
       omega arith,
@@ -28,5 +29,6 @@ loop-i-preserved c =     let l = c.args.free in
     )
 
 pub returns : goal.returns
-returns c =     let done : c.loop-i.i ≡ c.args.freed = omega arith in
+returns c =
+    let done : c.loop-i.i ≡ c.args.freed = omega arith in
     c.loop-i.invariant.1 ∙ rw done

@@ -1,0 +1,6 @@
+-- `fault_claims` meets its contract: by the law of faults.
+use Rattle.script.proofs.FaultLaws.{told}
+use Rattle.script.proofs.fault.fault_claims.Goals as goal
+
+pub returns : goal.returns
+returns c = record { told = told }

@@ -1,0 +1,13 @@
+-- `as_i16` meets its contract: what is read within the range fits a signed 16 bits.
+use lib.Dec.{lit<}
+use mir.Facts.{to_z-of_z}
+use mir.Syntax.{w16, w64}
+use borrow.Author.Rules.{rules}
+use Rattle.script.proofs.RangeLaws.{signed_fits}
+use Rattle.script.proofs.fields.as_i16.Goals as goal
+
+pub overflow_cast-result : goal.overflow_cast-result
+overflow_cast-result c = rw (c.as_signed-read.ensures, to_z-of_z {w = w64} (signed_fits 32767 c.args.n (lit< tt))) (signed_fits 32767 c.args.n (lit< tt))
+
+pub returns : goal.returns
+returns c = rw (c.as_signed-read.ensures, to_z-of_z {w = w64} (signed_fits 32767 c.args.n (lit< tt)), to_z-of_z {w = w16} (signed_fits 32767 c.args.n (lit< tt)))
