@@ -21,7 +21,7 @@ use Rattle.maps.specs.contracts.bindings.Bindings as T
 use Rattle.maps.proofs.bindings.Bindings.TheLaws as T'
 
 pub long : (t : Bindings) {vs : List Val} → Is T.the_row t vs → length t.entries ≡ 128
-long t {vs} p = sym (length-map t.entries _) ∙ (LL.owed T.the_type T'.the_laws t vs p).0.1.0.1
+long t {vs} p = (LL.owed T.the_type T'.the_laws t vs p).0.1.0.1
 
 pub few : (t : Bindings) {vs : List Val} → Is T.the_row t vs → length (entries_of bindings t) ≤ 128
 few t p = table.few bindings t (long t p)

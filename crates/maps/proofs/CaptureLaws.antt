@@ -21,7 +21,7 @@ use Rattle.maps.specs.contracts.captures.PointerCaptures as T
 use Rattle.maps.proofs.captures.PointerCaptures.TheLaws as T'
 
 pub long : (t : PointerCaptures) {vs : List Val} → Is T.the_row t vs → length t.entries ≡ 32
-long t {vs} p = sym (length-map t.entries _) ∙ (LL.owed T.the_type T'.the_laws t vs p).0.1.0.1
+long t {vs} p = (LL.owed T.the_type T'.the_laws t vs p).0.1.0.1
 
 pub few : (t : PointerCaptures) {vs : List Val} → Is T.the_row t vs → length (entries_of captures t) ≤ 32
 few t p = table.few captures t (long t p)

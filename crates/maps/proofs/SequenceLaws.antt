@@ -20,7 +20,7 @@ use Rattle.maps.specs.contracts.sequences.DeviceSequences as T
 use Rattle.maps.proofs.sequences.DeviceSequences.TheLaws as T'
 
 pub long : (t : DeviceSequences) {vs : List Val} → Is T.the_row t vs → length t.entries ≡ 32
-long t {vs} p = sym (length-map t.entries _) ∙ (LL.owed T.the_type T'.the_laws t vs p).0.1.0.1
+long t {vs} p = (LL.owed T.the_type T'.the_laws t vs p).0.1.0.1
 
 pub few : (t : DeviceSequences) {vs : List Val} → Is T.the_row t vs → length (entries_of sequences t) ≤ 32
 few t p = table.few sequences t (long t p)

@@ -1,5 +1,4 @@
 -- An optional handle is a handle exactly if it is there and is the same: by its two variants.
-use borrow.Author.Rules.{rules}
 use Rattle.handles.proofs.holds.Goals as goal
 
 pub returns-in-Some : goal.returns-in-Some

@@ -3,7 +3,6 @@ use mathlib.Core.Path.{sym, ◌∙◌}
 use Rattle.handles.specs.Slots.{allocated}
 use Rattle.handles.proofs.RoomLaws.{live_below, used_below}
 use borrow.Author.Tests.{le-ltb, lt-ltb}
-use borrow.Author.Rules.{rules}
 use Rattle.handles.proofs.arena.allocate.Goals as goal
 
 pub allocate_freed-requires : goal.allocate_freed-requires

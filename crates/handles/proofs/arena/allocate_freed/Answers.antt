@@ -1,5 +1,4 @@
 -- The last freed slot is issued as defined: by the equations of the reads and of the write.
-use borrow.Author.Rules.{rules}
 use Rattle.handles.proofs.arena.allocate_freed.Goals as goal
 
 pub returns : goal.returns

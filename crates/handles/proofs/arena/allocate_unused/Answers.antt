@@ -1,5 +1,4 @@
 -- The next slot never used is issued as defined: by the equation of the write.
-use borrow.Author.Rules.{rules}
 use Rattle.handles.proofs.arena.allocate_unused.Goals as goal
 
 pub returns : goal.returns

@@ -1,13 +1,11 @@
 -- The loop holds the handles of the slots passed as a table: a filled slot pushes its handle, and an empty one nothing.
-use Prim.Native.Nat.{◌≤◌, ◌-◌}
 use mathlib.Core.Path.{◌≡◌, refl, sym, ◌∙◌}
-use mathlib.Core.Logic.{⊎_elim}
 use native.Mathlib.Omega.{arith}
-use borrow.Author.Rules.{rules}
 use Rattle.lists.specs.Tables.{packed}
-use Rattle.handles.specs.Slots.{used_places, handles_table, handles_below}
+use Rattle.handles.specs.Slots.{used_places}
 use Rattle.handles.proofs.LiveLaws.{places_within, below_none, turn_room, turn_filled, turn_empty}
 use Rattle.handles.proofs.arena.live_handles.Goals as goal
+use Rattle.handles.proofs.arena.live_handles.Goals.{then-s, else-s}
 
 pub loop-i-init : goal.loop-i-init
 unfolding packed
@@ -17,14 +15,13 @@ pub push-live-requires : goal.push-live-requires
 push-live-requires c = turn_room _ _ _ c.loop-i.invariant.1 (omega arith)
 
 pub loop-i-preserved : goal.loop-i-preserved
-loop-i-preserved c =
-    let d = c in (
-      (omega arith, omega arith),
-      ⊎_elim
-          (λ w. w.2 ∙ w.1.ensures ∙ rw (d.loop-i.invariant.1, c.slot_at-s.ensures) (turn_filled _ _ (omega arith) (rw (sym c.slot_at-s.ensures) w.0.taken)))
-          (λ w. w.1 ∙ d.loop-i.invariant.1 ∙ turn_empty _ _ (rw (sym c.slot_at-s.ensures) w.0.left))
-          c.if-s.branch,
-    )
+loop-i-preserved c = (
+  (omega arith, omega arith),
+  elim c.if-s.branch [
+    | then-s w ↦ w.live-is ∙ w.push-live.ensures ∙ rw (c.loop-i.invariant.1, c.slot_at-s.ensures) (turn_filled _ _ (omega arith) (rw (sym c.slot_at-s.ensures) w.if-s.true))
+    | else-s w ↦ w.live-is ∙ c.loop-i.invariant.1 ∙ turn_empty _ _ (rw (sym c.slot_at-s.ensures) w.if-s.false)
+  ],
+)
 
 pub returns : goal.returns
 returns c =

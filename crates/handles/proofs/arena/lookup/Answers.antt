@@ -1,7 +1,6 @@
 -- A lookup is the definition: the handle is valid, its slot was used, and then the slot decides.
 use Rattle.handles.specs.Slots.{lookup_of}
 use borrow.Author.Tests.{le-ltb, lt-ltb}
-use borrow.Author.Rules.{rules}
 use Rattle.handles.proofs.arena.lookup.Goals as goal
 
 pub returns-then-i-a : goal.returns-then-i-a

@@ -1,13 +1,9 @@
 -- The loop gathers, below each index, whether no slot passed is exhausted.
-use Prim.Native.Nat.{◌≤◌, ◌-◌}
-use mathlib.Core.Path.{◌≡◌, sym, ap, ◌∙◌}
-use mathlib.Core.Bool.{not}
+use mathlib.Core.Path.{sym, ap, ◌∙◌}
 use native.Mathlib.Omega.{arith}
-use lib.ListN.{get_or}
-use borrow.Author.Rules.{rules}
 use Rattle.lists.specs.Below.{all_below}
 use Rattle.lists.proofs.BelowLaws.{all_none, all_more}
-use Rattle.handles.specs.Slots.{no_slot, is_exhausted, none_exhausted}
+use Rattle.handles.specs.Slots.{none_exhausted}
 use Rattle.handles.proofs.arena.preflight_release.Goals as goal
 
 pub loop-i-init : goal.loop-i-init

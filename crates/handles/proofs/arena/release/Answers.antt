@@ -1,6 +1,5 @@
 -- A release is the definition, by the three answers of the lookup.
 use Rattle.handles.specs.Slots.{released}
-use borrow.Author.Rules.{rules}
 use Rattle.handles.proofs.arena.release.Goals as goal
 
 pub returns-in-Live : goal.returns-in-Live

@@ -1,6 +1,5 @@
 -- A live handle is released as defined: each refusal by its test, and the rest by the equations of the two writes.
 use borrow.Author.Tests.{eq-eqb, le-leb, lt-leb, ne_eqb}
-use borrow.Author.Rules.{rules}
 use Rattle.handles.proofs.arena.release_live.Goals as goal
 
 pub returns-then-h-eq-LAST_GENERATION : goal.returns-then-h-eq-LAST_GENERATION

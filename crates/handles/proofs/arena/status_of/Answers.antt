@@ -1,6 +1,5 @@
 -- A slot is live to a generation by the two tests of the definition, in its order.
 use borrow.Author.Tests.{eq-eqb, ne_eqb}
-use borrow.Author.Rules.{rules}
 use Rattle.handles.proofs.arena.status_of.Goals as goal
 
 pub returns-then-s-generation : goal.returns-then-s-generation

@@ -1,6 +1,5 @@
 -- The three counts are within the table and the limit, each by its own test.
 use Rattle.handles.specs.WellFormed.{counts_within}
-use borrow.Author.Rules.{rules}
 use Rattle.handles.proofs.well_formed.counts_within.Goals as goal
 
 pub returns : goal.returns

@@ -1,11 +1,8 @@
 -- The loop gathers, below each index, whether every slot passed stands in the free list as often as is due.
 use Prim.Native.Nat.{◌≤◌, ◌-◌}
-use mathlib.Core.Path.{◌≡◌, sym, ap, ◌∙◌}
-use native.Mathlib.Omega.{arith}
-use borrow.Author.Rules.{rules}
+use mathlib.Core.Path.{◌≡◌}
 use lib.ListN.{take}
 use Rattle.lists.specs.Below.{all_below}
-use Rattle.lists.proofs.BelowLaws.{all_none, all_more}
 use Rattle.handles.specs.WellFormed.{stands_as_due}
 use Rattle.handles.proofs.well_formed.each_stands_as_due.Given as goal
 

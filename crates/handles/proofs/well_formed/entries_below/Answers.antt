@@ -1,10 +1,7 @@
 -- The loop gathers whether every entry passed is the index of a used slot.
-use Prim.Native.Nat.{◌≤◌, ◌-◌}
 use mathlib.Core.Path.{◌≡◌, refl, sym, ◌∙◌}
 use native.Mathlib.Omega.{arith}
 use borrow.Author.Rules.{rules}
-use lib.ListN.{take}
-use Rattle.lists.specs.Lists.{all}
 use Rattle.lists.proofs.ListLaws.{all_take}
 use Rattle.handles.specs.WellFormed.{is_below}
 use Rattle.handles.proofs.well_formed.entries_below.Goals as goal

@@ -1,13 +1,11 @@
 -- The loop counts the filled ones of the slots passed.
-use Prim.Native.Nat.{◌≤◌, ◌-◌}
-use mathlib.Core.Path.{◌≡◌, sym, ap, ◌∙◌}
-use mathlib.Core.Logic.{⊎_elim}
+use mathlib.Core.Path.{sym, ap, ◌∙◌}
 use native.Mathlib.Omega.{arith}
-use borrow.Author.Rules.{rules}
 use Rattle.lists.specs.Below.{count_below}
 use Rattle.lists.proofs.BelowLaws.{count_none, count_more, count_le}
 use Rattle.handles.specs.WellFormed.{is_filled}
 use Rattle.handles.proofs.well_formed.filled_count.Goals as goal
+use Rattle.handles.proofs.well_formed.filled_count.Goals.{then-s, else-s}
 
 pub loop-i-init : goal.loop-i-init
 loop-i-init c = (omega arith, sym (count_none _))
@@ -19,10 +17,10 @@ pub loop-i-preserved : goal.loop-i-preserved
 loop-i-preserved c = let counted =
     c.loop-i.invariant.1 in (
       omega arith,
-      ⊎_elim
-          (λ w. w.1 ∙ simp (count_more, w.0.taken, ← counted))
-          (λ w. w.1 ∙ simp (count_more, w.0.left, ← counted))
-          c.if-s.branch,
+      elim c.if-s.branch [
+        | then-s w ↦ w.count-is ∙ simp (count_more, w.if-s.true, ← counted)
+        | else-s w ↦ w.count-is ∙ simp (count_more, w.if-s.false, ← counted)
+      ],
     )
 
 pub returns : goal.returns

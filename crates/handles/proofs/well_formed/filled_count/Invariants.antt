@@ -1,11 +1,7 @@
 -- The loop counts the filled ones of the slots passed.
 use Prim.Native.Nat.{◌≤◌, ◌-◌}
-use mathlib.Core.Path.{◌≡◌, sym, ap, ◌∙◌}
-use mathlib.Core.Logic.{⊎_elim}
-use native.Mathlib.Omega.{arith}
-use borrow.Author.Rules.{rules}
+use mathlib.Core.Path.{◌≡◌}
 use Rattle.lists.specs.Below.{count_below}
-use Rattle.lists.proofs.BelowLaws.{count_none, count_more, count_le}
 use Rattle.handles.specs.WellFormed.{is_filled}
 use Rattle.handles.proofs.well_formed.filled_count.Given as goal
 

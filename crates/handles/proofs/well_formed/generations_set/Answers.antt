@@ -1,11 +1,8 @@
 -- The loop gathers, below each index, whether every slot passed has a generation.
-use Prim.Native.Nat.{◌≤◌, ◌-◌}
-use mathlib.Core.Path.{◌≡◌, sym, ap, ◌∙◌}
+use mathlib.Core.Path.{sym, ap, ◌∙◌}
 use native.Mathlib.Omega.{arith}
-use borrow.Author.Rules.{rules}
 use Rattle.lists.specs.Below.{all_below}
 use Rattle.lists.proofs.BelowLaws.{all_none, all_more}
-use Rattle.handles.specs.WellFormed.{has_generation}
 use Rattle.handles.proofs.well_formed.generations_set.Goals as goal
 
 pub loop-i-init : goal.loop-i-init

@@ -1,10 +1,7 @@
 -- The loop gathers, below each index, whether every slot passed has a generation.
 use Prim.Native.Nat.{◌≤◌, ◌-◌}
-use mathlib.Core.Path.{◌≡◌, sym, ap, ◌∙◌}
-use native.Mathlib.Omega.{arith}
-use borrow.Author.Rules.{rules}
+use mathlib.Core.Path.{◌≡◌}
 use Rattle.lists.specs.Below.{all_below}
-use Rattle.lists.proofs.BelowLaws.{all_none, all_more}
 use Rattle.handles.specs.WellFormed.{has_generation}
 use Rattle.handles.proofs.well_formed.generations_set.Given as goal
 

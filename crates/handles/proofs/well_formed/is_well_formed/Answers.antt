@@ -1,6 +1,5 @@
 -- The test is the definition: counts within the table first, so that the loops stay in range, and then its parts.
 use mathlib.Core.Path.{sym, ◌∙◌}
-use borrow.Author.Rules.{rules}
 use Rattle.handles.specs.WellFormed.{well_formed}
 use Rattle.handles.proofs.SoundLaws.{counts}
 use Rattle.handles.proofs.well_formed.is_well_formed.Goals as goal

@@ -1,14 +1,12 @@
 -- The loop counts the entries passed that are the slot.
-use Prim.Native.Nat.{ℕ, ◌+◌, ◌≤◌, ◌-◌}
+use Prim.Native.Nat.{ℕ, ◌+◌}
 use mathlib.Core.Path.{◌≡◌, sym, ap, ◌∙◌}
-use mathlib.Core.Logic.{⊎_elim}
 use native.Mathlib.Omega.{arith}
 use borrow.Author.Rules.{rules}
 use borrow.Author.Tests.{eq-eqb, ne_eqb}
-use lib.ListN.{take}
-use Rattle.handles.specs.WellFormed.{occurrences_of}
 use Rattle.handles.proofs.OccurrenceLaws.{occurs_none, occurs_few, occurs_yes, occurs_no}
 use Rattle.handles.proofs.well_formed.occurrences.Goals as goal
+use Rattle.handles.proofs.well_formed.occurrences.Goals.{then-slot-index, else-slot-index}
 
 pub loop-i-init : goal.loop-i-init
 loop-i-init c = (omega arith, sym (occurs_none _))
@@ -22,10 +20,10 @@ loop-i-preserved c =
     let k = c.loop-i.i in
     let counted = c.loop-i.invariant.1 in (
       omega arith,
-      ⊎_elim
-          (λ w. w.1 ∙ ap (λ (n : ℕ). n + 1) counted ∙ sym (occurs_yes _ l k (search rules) (eq-eqb _ _ w.0.taken)))
-          (λ w. w.1 ∙ counted ∙ sym (occurs_no _ l k (search rules) (ne_eqb _ _ w.0.left)))
-          c.if-slot-index.branch,
+      elim c.if-slot-index.branch [
+        | then-slot-index w ↦ w.count-is ∙ ap (λ (n : ℕ). n + 1) counted ∙ sym (occurs_yes _ l k (search rules) (eq-eqb _ _ w.if-slot-index.true))
+        | else-slot-index w ↦ w.count-is ∙ counted ∙ sym (occurs_no _ l k (search rules) (ne_eqb _ _ w.if-slot-index.false))
+      ],
     )
 
 pub returns : goal.returns

@@ -1,0 +1,6 @@
+-- `Bindings::get` meets its contract: it finds the key of the press as numbers.
+use borrow.Author.Rules.{rules}
+use Rattle.maps.proofs.bindings.Bindings.get.Goals as goal
+
+pub returns : goal.returns
+returns c = rw (c.find.ensures, c.binding_key.ensures)

@@ -1,0 +1,6 @@
+-- `Bindings::remove` meets its contract: it retains the other keys.
+use borrow.Author.Rules.{rules}
+use Rattle.maps.proofs.bindings.Bindings.remove.Goals as goal
+
+pub returns : goal.returns
+returns c = rw (c.retain.ensures, c.binding_key.ensures)

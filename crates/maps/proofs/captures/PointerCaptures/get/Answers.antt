@@ -1,0 +1,6 @@
+-- `PointerCaptures::get` meets its contract: it finds the key of the pointer.
+use borrow.Author.Rules.{rules}
+use Rattle.maps.proofs.captures.PointerCaptures.get.Goals as goal
+
+pub returns : goal.returns
+returns c = rw (c.find.ensures, c.pointer_key.ensures)

@@ -1,0 +1,6 @@
+-- `PointerCaptures::remove` meets its contract: it retains the other keys.
+use borrow.Author.Rules.{rules}
+use Rattle.maps.proofs.captures.PointerCaptures.remove.Goals as goal
+
+pub returns : goal.returns
+returns c = rw (c.retain.ensures, c.pointer_key.ensures)

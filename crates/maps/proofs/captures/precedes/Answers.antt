@@ -1,0 +1,6 @@
+-- `precedes` meets its contract: the two keys are compared as numbers.
+use borrow.Author.Rules.{rules}
+use Rattle.maps.proofs.captures.precedes.Goals as goal
+
+pub returns : goal.returns
+returns c = rw (c.key_lt.ensures, c.key_of-2.ensures, c.key_of.ensures)
