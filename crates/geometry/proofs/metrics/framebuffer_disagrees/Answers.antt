@@ -1,5 +1,5 @@
 -- `framebuffer_disagrees` meets its contract: whether the view is empty picks one of the definition's two parts.
-use Rattle.std.proofs.Common.{sym, ◌∙◌, rules, eq-eqb, ne_eqb}
+use Rattle.std.proofs.Common.{sym, ◌∙◌, eq-eqb, ne_eqb}
 use mathlib.Core.Bool.{or-false}
 use Rattle.geometry.proofs.metrics.framebuffer_disagrees.Goals as goal
 

@@ -1,5 +1,5 @@
 -- `validate_view_metrics` meets its contract: the tests that failed and the one that held say which part of the definition decides.
-use Rattle.std.proofs.Common.{sym, ◌∙◌, rules, eq-eqb, ne_eqb}
+use Rattle.std.proofs.Common.{sym, ◌∙◌, eq-eqb, ne_eqb}
 use Rattle.geometry.specs.Metrics.{is_valid_metrics}
 use Rattle.geometry.proofs.metrics.validate_view_metrics.Goals as goal
 

@@ -1,5 +1,4 @@
 -- `is_allowed` meets its contract: each variant is its own case, and the point's fields are read back from their bits.
-use Rattle.std.proofs.Common.{rules}
 use Rattle.geometry.proofs.Integers.{i32_back}
 use Rattle.geometry.proofs.surface.is_allowed.Goals as goal
 

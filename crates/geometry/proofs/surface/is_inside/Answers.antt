@@ -1,5 +1,5 @@
 -- `is_inside` meets its contract: each variant is its own case, and the clip is tested only where the bounds allow the point.
-use Rattle.std.proofs.Common.{sym, ◌∙◌, rules}
+use Rattle.std.proofs.Common.{sym, ◌∙◌}
 use Rattle.geometry.proofs.surface.is_inside.Goals as goal
 
 pub returns-then-is_allowed : goal.returns-then-is_allowed

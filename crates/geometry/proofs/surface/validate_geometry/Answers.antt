@@ -1,5 +1,5 @@
 -- `validate_geometry` meets its contract: the tests that failed and the one that held say which part of the definition decides.
-use Rattle.std.proofs.Common.{sym, ◌∙◌, rules}
+use Rattle.std.proofs.Common.{sym, ◌∙◌}
 use Rattle.geometry.specs.Surface.{is_valid_geometry}
 use Rattle.geometry.proofs.surface.validate_geometry.Goals as goal
 

@@ -1,5 +1,5 @@
 -- `matrix_entry` meets its contract: the literal 65536.0 is `q16`, and an `i32` in a local is itself.
-use Rattle.std.proofs.Common.{ap, to_z-of_z, rules}
+use Rattle.std.proofs.Common.{ap, to_z-of_z}
 use lib.Ieee.{of_bits}
 use Rattle.geometry.specs.Transform.{matrix_entry}
 use Rattle.geometry.proofs.transform.matrix_entry.Goals as goal

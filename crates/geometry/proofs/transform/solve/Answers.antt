@@ -1,5 +1,5 @@
 -- `solve` meets its contract: the test of the determinant picks the case, and the two roundings give the point.
-use Rattle.std.proofs.Common.{sym, ◌∙◌, ap₂, rules}
+use Rattle.std.proofs.Common.{sym, ◌∙◌, ap₂}
 use Rattle.geometry.specs.Transform.{joined, solved}
 use Rattle.geometry.proofs.Logic.{cond_true, cond_false}
 use Rattle.geometry.proofs.transform.solve.Goals as goal

@@ -13,3 +13,7 @@ returns-then-self c =
     let at : c.inverse_point-local.result ≡ inverse_point g.transform start.args.x_milli start.args.y_milli =
     cc (to_z-of_z start.ranges.x_milli, to_z-of_z start.ranges.y_milli) in
     simp c.if-self.true (c.is_inside.ensures ∙ ap (λ (p : LocalPoint). lies_inside g.bounds g.clip p) at)
+
+pub returns-else-self : goal.returns-else-self
+unfolding is_hit
+returns-else-self c = search rules

@@ -1,5 +1,5 @@
 -- `inverse_point` meets its contract: each field and argument in a local is read back from its bits, and each callee says its part.
-use Rattle.std.proofs.Common.{to_z-of_z, rules}
+use Rattle.std.proofs.Common.{to_z-of_z}
 use Rattle.geometry.proofs.Integers.{i32_back}
 use Rattle.geometry.proofs.transform.SurfaceTransform.inverse_point.Goals as goal
 
