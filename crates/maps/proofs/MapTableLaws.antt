@@ -11,7 +11,6 @@ use Rattle.lists.specs.Tables.{Shape, entries_of}
 use Rattle.lists.specs.Orders.{Ordered}
 use Rattle.lists.specs.Maps.{insert}
 use Rattle.lists.specs.MapClaims.{MapClaims}
-use Rattle.lists.proofs.TableLaws.{entry}
 use Rattle.lists.proofs.OrderLaws.{quad, through}
 use Rattle.lists.proofs.MapLaws as map
 use Rattle.maps.specs.declared.keys.MapKey.{MapKey}

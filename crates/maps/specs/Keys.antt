@@ -3,7 +3,6 @@ use Rattle.std.specs.Prelude.{ℕ, Bool, not, ◌&&◌, eqb}
 use Rattle.lists.specs.Orders.{quad_lt, quad_same, pair_same}
 use Rattle.maps.specs.declared.keys.CompositionPointerId.{CompositionPointerId}
 use Rattle.maps.specs.declared.keys.InputDeviceId.{InputDeviceId}
-use Rattle.maps.specs.declared.keys.DeviceKey.{DeviceKey}
 use Rattle.maps.specs.declared.keys.BindingKey.{BindingKey}
 use Rattle.maps.specs.declared.keys.BindingKey.TheVariants as B
 use Rattle.maps.specs.declared.keys.MapKey.{MapKey}

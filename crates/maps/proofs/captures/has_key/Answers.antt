@@ -1,5 +1,4 @@
 -- `has_key` meets its contract: the two keys are compared as numbers.
-use borrow.Author.Rules.{rules}
 use Rattle.maps.proofs.captures.has_key.Goals as goal
 
 pub returns : goal.returns

@@ -1,5 +1,4 @@
 -- `passes` meets its contract: the test is of the key and the panel of the entry.
-use borrow.Author.Rules.{rules}
 use Rattle.maps.proofs.captures.passes.Goals as goal
 
 pub returns : goal.returns

@@ -1,5 +1,4 @@
 -- `binding_key` meets its contract, by the kinds of keys.
-use borrow.Author.Rules.{rules}
 use Rattle.maps.proofs.keys.binding_key.Goals as goal
 
 pub returns-in-Pointer : goal.returns-in-Pointer

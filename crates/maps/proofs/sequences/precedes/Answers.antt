@@ -1,5 +1,4 @@
 -- `precedes` meets its contract: the two keys are compared as numbers.
-use borrow.Author.Rules.{rules}
 use Rattle.maps.proofs.sequences.precedes.Goals as goal
 
 pub returns : goal.returns

@@ -1,5 +1,4 @@
 -- `entry_passes` meets its contract, by the cases of the test.
-use borrow.Author.Rules.{rules}
 use Rattle.maps.proofs.tests.entry_passes.Goals as goal
 
 pub returns-in-Key : goal.returns-in-Key

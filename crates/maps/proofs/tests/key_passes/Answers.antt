@@ -1,5 +1,4 @@
 -- `key_passes` meets its contract, by the cases of the test.
-use borrow.Author.Rules.{rules}
 use Rattle.maps.proofs.tests.key_passes.Goals as goal
 
 pub returns-in-Below : goal.returns-in-Below

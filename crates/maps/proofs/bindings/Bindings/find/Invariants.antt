@@ -1,17 +1,11 @@
 -- `Bindings::find` meets its contract: what is still to be searched answers as the whole.
-use Prim.Native.Nat.{◌≤◌, ◌<◌, ◌-◌}
+use Prim.Native.Nat.{◌≤◌, ◌-◌}
 use mathlib.Core.Bool.{Bool}
-use mathlib.Core.Path.{refl, sym, ap, ◌∙◌}
-use native.Mathlib.Omega.{arith}
-use borrow.Author.Rules.{rules}
-use lib.ListN.{length}
-use Rattle.lists.specs.Tables.{entries_of}
-use Rattle.lists.proofs.LoopLaws.{Searched, search_here, search_next, search_end}
+use Rattle.lists.proofs.LoopLaws.{Searched}
 use Rattle.maps.specs.Keys.{key_same}
 use Rattle.maps.specs.declared.bindings.Binding.{Binding}
 use Rattle.maps.specs.declared.keys.MapKey.{MapKey}
-use Rattle.maps.specs.Bindings.{bindings, key_of_binding, surface_of}
-use Rattle.maps.proofs.BindingLaws.{few}
+use Rattle.maps.specs.Bindings.{bindings, key_of_binding}
 use Rattle.maps.proofs.bindings.Bindings.find.Given as goal
 
 abbrev pub has_key : MapKey → Binding → Bool

@@ -1,5 +1,4 @@
 -- `Bindings::get` meets its contract: it finds the key of the press as numbers.
-use borrow.Author.Rules.{rules}
 use Rattle.maps.proofs.bindings.Bindings.get.Goals as goal
 
 pub returns : goal.returns

@@ -1,25 +1,21 @@
 -- `Bindings::has_room` meets its contract: the key is found, or a place is left.
-use mathlib.Core.Path.{◌≡◌, sym, ap, ◌∙◌}
+use mathlib.Core.Path.{sym, ap, ◌∙◌}
 use mathlib.Core.Option.{Option}
-use borrow.Author.Rules.{rules}
 use lib.Dec.{ltb}
 use Rattle.maps.specs.declared.bindings.Binding.{Binding}
+use Rattle.maps.specs.declared.bindings.Bindings.{Bindings}
 use Rattle.maps.specs.MapTables.{found}
-use Rattle.maps.specs.Bindings.{bindings, key_of_binding, surface_of}
+use Rattle.maps.specs.Bindings.{bindings, key_of_binding}
 use Rattle.maps.proofs.BindingLaws.{some_found, none_found}
 use Rattle.maps.proofs.bindings.Bindings.has_room.Goals as goal
 
 -- what the search answered, at the entry's own key
-abbrev sought : goal.After-find-before → Option Binding
-sought c = found bindings key_of_binding (key_of_binding c.args.entry) c.args.self
-
-searched : (c : goal.After-find-before) → c.find-before.result ≡ surface_of (sought c)
-searched c = c.find-before.ensures ∙ rw c.key_of.ensures
+abbrev sought : Binding → Bindings → Option Binding
+sought entry self = found bindings key_of_binding (key_of_binding entry) self
 
 pub returns-in-Some : goal.returns-in-Some
-returns-in-Some c = let d = c in simp (some_found (sought d) _ (sym (searched d) ∙ c.in-Some.is))
+returns-in-Some c = simp (some_found (sought c.args.entry c.args.self) _ (sym (c.find-before.ensures ∙ rw c.key_of.ensures) ∙ c.in-Some.is))
 
 pub returns-in-None : goal.returns-in-None
 returns-in-None c =
-    let d = c in
-    simp (none_found (sought d) (sym (searched d) ∙ c.in-None.is)) (ap (λ n. ltb n 128) c.count.ensures)
+    simp (none_found (sought c.args.entry c.args.self) (sym (c.find-before.ensures ∙ rw c.key_of.ensures) ∙ c.in-None.is)) (ap (λ n. ltb n 128) c.count.ensures)

@@ -1,5 +1,4 @@
 -- `Bindings::remove` meets its contract: it retains the other keys.
-use borrow.Author.Rules.{rules}
 use Rattle.maps.proofs.bindings.Bindings.remove.Goals as goal
 
 pub returns : goal.returns

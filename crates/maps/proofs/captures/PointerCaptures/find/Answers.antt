@@ -1,16 +1,11 @@
 -- `PointerCaptures::find` meets its contract: what is still to be searched answers as the whole.
-use Prim.Native.Nat.{◌≤◌, ◌<◌, ◌-◌}
-use mathlib.Core.Bool.{Bool}
+use Prim.Native.Nat.{◌<◌}
 use mathlib.Core.Path.{refl, sym, ap, ◌∙◌}
 use native.Mathlib.Omega.{arith}
-use borrow.Author.Rules.{rules}
 use lib.ListN.{length}
 use Rattle.lists.specs.Tables.{entries_of}
-use Rattle.lists.proofs.LoopLaws.{Searched, search_here, search_next, search_end}
-use Rattle.maps.specs.Keys.{key_same}
-use Rattle.maps.specs.declared.captures.Capture.{Capture}
-use Rattle.maps.specs.declared.keys.MapKey.{MapKey}
-use Rattle.maps.specs.Captures.{captures, capture_key, surface_of}
+use Rattle.lists.proofs.LoopLaws.{search_here, search_next, search_end}
+use Rattle.maps.specs.Captures.{captures, surface_of}
 use Rattle.maps.proofs.CaptureLaws.{few}
 use Rattle.maps.proofs.captures.PointerCaptures.find.Invariants.{has_key}
 use Rattle.maps.proofs.captures.PointerCaptures.find.Goals as goal

@@ -1,5 +1,4 @@
 -- `PointerCaptures::get` meets its contract: it finds the key of the pointer.
-use borrow.Author.Rules.{rules}
 use Rattle.maps.proofs.captures.PointerCaptures.get.Goals as goal
 
 pub returns : goal.returns

@@ -3,42 +3,50 @@ use Prim.Native.Nat.{◌≤◌}
 use mathlib.Core.Path.{◌≡◌, sym, ◌∙◌}
 use mathlib.Core.Bool.{true}
 use mathlib.Core.List.{◌∷◌, [], ◌++◌}
-use borrow.Author.Rules.{rules}
 use lib.ListN.{length}
-use Rattle.lists.specs.Tables.{entries_of, packed}
-use Rattle.lists.specs.Maps.{insert}
+use Rattle.lists.specs.Tables.{entries_of, packed, pushed}
 use Rattle.lists.proofs.LoopLaws.{lower, push_room, pushed_is, extend_room, extended_is}
 use Rattle.maps.specs.Keys.{key_lt}
+use Rattle.maps.specs.declared.captures.Capture.{Capture}
+use Rattle.maps.specs.declared.captures.PointerCaptures.{PointerCaptures}
 use Rattle.maps.specs.MapTables.{accepts}
 use Rattle.maps.specs.Captures.{captures, capture_key}
 use Rattle.maps.proofs.MapTableLaws.{accepted_fits}
 use Rattle.maps.proofs.CaptureLaws.{few}
 use Rattle.maps.proofs.captures.PointerCaptures.insert.Goals as goal
 
-accepted : (c : goal.Then-has_room) → accepts captures capture_key c.args.entry c.args.self ≡ true
-accepted c = sym c.has_room.ensures ∙ c.if-has_room.true
-
-fits : (c : goal.Then-has_room) → length (insert capture_key key_lt c.args.entry (entries_of captures c.args.self)) ≤ 32
-fits c = let s = c in accepted_fits captures capture_key s.args.self s.args.entry (few s.args.self s.well_formed.0) (accepted c)
-
-low_is : (c : goal.After-retain-low) → c.retain-low.result ≡ packed captures (lower captures c.args.self capture_key key_lt c.args.entry)
-low_is c = c.retain-low.ensures ∙ rw c.key_of-key.ensures
-
-mid_is : (c : goal.After-push) → c.push.result ≡ packed captures (lower captures c.args.self capture_key key_lt c.args.entry ++ (c.args.entry ∷ []))
-mid_is c = let s = c in c.push.ensures ∙ pushed_is captures s.args.self capture_key key_lt s.args.entry (fits c) c.retain-low.result (low_is c)
-
 pub push-requires : goal.push-requires
-push-requires c = push_room captures _ capture_key key_lt c.args.entry (fits c) c.retain-low.result (low_is c)
+push-requires c =
+    let s = c.args in
+    let fits = accepted_fits captures capture_key s.self s.entry (few s.self c.well_formed.0) (sym c.has_room.ensures ∙ c.if-has_room.true) in
+    push_room captures _ capture_key key_lt s.entry fits c.retain-low.result (c.retain-low.ensures ∙ rw c.key_of-key.ensures)
+
+-- what stands before the entries above the key
+middle : (self : PointerCaptures) (entry : Capture) (low mid : PointerCaptures) → accepts captures capture_key entry self ≡ true
+    → length (entries_of captures self) ≤ 32
+    → low ≡ packed captures (lower captures self capture_key key_lt entry)
+    → mid ≡ pushed captures low entry
+    → mid ≡ packed captures (lower captures self capture_key key_lt entry ++ (entry ∷ []))
+middle self entry low mid taken room low_is mid_is =
+    mid_is ∙ pushed_is captures self capture_key key_lt entry (accepted_fits captures capture_key self entry room taken) low low_is
 
 pub extend-captures-requires : goal.extend-captures-requires
 extend-captures-requires c =
-    let s = c in
-    rw c.key_of-key.ensures (extend_room captures s.args.self capture_key key_lt s.args.entry (fits c) c.push.result (mid_is c))
+    let s = c.args in
+    let taken = sym c.has_room.ensures ∙ c.if-has_room.true in
+    let room = few s.self c.well_formed.0 in
+    let fits = accepted_fits captures capture_key s.self s.entry room taken in
+    let low_is = c.retain-low.ensures ∙ rw c.key_of-key.ensures in
+    let both = extend_room captures s.self capture_key key_lt s.entry fits c.push.result (middle s.self s.entry c.retain-low.result c.push.result taken room low_is c.push.ensures) in
+    rw c.key_of-key.ensures (record { self_value = both.0; from_len_bound = both.1 })
 
 pub returns-then-has_room : goal.returns-then-has_room
 returns-then-has_room c =
-    let s = c in
-    rw (accepted c, c.extend-captures.ensures, c.key_of-key.ensures, extended_is captures s.args.self capture_key key_lt s.args.entry c.push.result (mid_is c))
+    let s = c.args in
+    let taken = sym c.has_room.ensures ∙ c.if-has_room.true in
+    let room = few s.self c.well_formed.0 in
+    let low_is = c.retain-low.ensures ∙ rw c.key_of-key.ensures in
+    rw (taken, c.extend-captures.ensures, c.key_of-key.ensures, extended_is captures s.self capture_key key_lt s.entry c.push.result (middle s.self s.entry c.retain-low.result c.push.result taken room low_is c.push.ensures))
 
 pub returns : goal.returns
 returns c = rw (sym c.has_room.ensures ∙ c.if-has_room.false)

@@ -1,14 +1,8 @@
 -- `PointerCaptures::is_rising` meets its contract: what is still to be compared rises exactly if the whole does.
-use Prim.Native.Nat.{◌≤◌, ◌<◌, ◌-◌, ◌+◌}
-use mathlib.Core.Path.{refl, sym, ◌∙◌}
-use native.Mathlib.Omega.{arith}
-use borrow.Author.Rules.{rules}
-use lib.ListN.{length}
-use Rattle.lists.specs.Tables.{entries_of}
-use Rattle.lists.proofs.LoopLaws.{Compared, rising_fails, rising_on, rising_stop}
+use Prim.Native.Nat.{◌≤◌, ◌-◌}
+use Rattle.lists.proofs.LoopLaws.{Compared}
 use Rattle.maps.specs.Keys.{key_lt}
 use Rattle.maps.specs.Captures.{captures, capture_key}
-use Rattle.maps.proofs.CaptureLaws.{few}
 use Rattle.maps.proofs.captures.PointerCaptures.is_rising.Given as goal
 
 abbrev pub invariant-loop-i : goal.invariant-loop-i

@@ -1,5 +1,4 @@
 -- `PointerCaptures::remove` meets its contract: it retains the other keys.
-use borrow.Author.Rules.{rules}
 use Rattle.maps.proofs.captures.PointerCaptures.remove.Goals as goal
 
 pub returns : goal.returns

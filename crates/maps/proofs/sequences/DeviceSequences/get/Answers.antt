@@ -1,5 +1,4 @@
 -- `DeviceSequences::get` meets its contract: it finds the key of the device.
-use borrow.Author.Rules.{rules}
 use Rattle.maps.proofs.sequences.DeviceSequences.get.Goals as goal
 
 pub returns : goal.returns

@@ -1,11 +1,10 @@
 -- `DeviceSequences::is_rising` meets its contract: what is still to be compared rises exactly if the whole does.
-use Prim.Native.Nat.{◌≤◌, ◌<◌, ◌-◌, ◌+◌}
+use Prim.Native.Nat.{◌<◌, ◌+◌}
 use mathlib.Core.Path.{refl, sym, ◌∙◌}
 use native.Mathlib.Omega.{arith}
-use borrow.Author.Rules.{rules}
 use lib.ListN.{length}
 use Rattle.lists.specs.Tables.{entries_of}
-use Rattle.lists.proofs.LoopLaws.{Compared, rising_fails, rising_on, rising_stop}
+use Rattle.lists.proofs.LoopLaws.{rising_fails, rising_on, rising_stop}
 use Rattle.maps.specs.Keys.{key_lt}
 use Rattle.maps.specs.Sequences.{sequences, sequence_key}
 use Rattle.maps.proofs.SequenceLaws.{few}

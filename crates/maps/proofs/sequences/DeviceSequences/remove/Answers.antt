@@ -1,5 +1,4 @@
 -- `DeviceSequences::remove` meets its contract: it retains the other keys.
-use borrow.Author.Rules.{rules}
 use Rattle.maps.proofs.sequences.DeviceSequences.remove.Goals as goal
 
 pub returns : goal.returns

@@ -1,7 +1,6 @@
 -- `DeviceSequences::retain` meets its contract: it extends the empty map.
 use mathlib.Core.Path.{◌∙◌}
 use native.Mathlib.Omega.{arith}
-use borrow.Author.Rules.{rules}
 use Rattle.lists.specs.Tables.{entries_of}
 use Rattle.lists.proofs.ListLaws.{length_keep}
 use Rattle.lists.proofs.TableLaws.{entries_packed}
@@ -11,10 +10,11 @@ use Rattle.maps.proofs.sequences.DeviceSequences.retain.Goals as goal
 
 pub extend-requires : goal.extend-requires
 extend-requires c =
-    let a = c.args in (
-      rw (c.new.ensures, entries_packed sequences),
-      simp (c.new.ensures, entries_packed sequences) (omega (arith, length_keep (sequence_passes a.test) (entries_of sequences a.self), few a.self c.well_formed.0)),
-    )
+    let a = c.args in
+    record {
+      self_value = rw (c.new.ensures, entries_packed sequences);
+      from_len_bound = simp (c.new.ensures, entries_packed sequences) (omega (arith, length_keep (sequence_passes a.test) (entries_of sequences a.self), few a.self c.well_formed.0));
+    }
 
 pub returns : goal.returns
 returns c = c.extend.ensures ∙ rw (c.new.ensures, entries_packed sequences)
