@@ -14,7 +14,7 @@ use Rattle.handles.specs.contracts.arena.Handles as T
 use Rattle.handles.proofs.arena.Handles.TheLaws as T'
 
 pub long : (t : Handles) {vs : List Val} → Is T.the_row t vs → length t.items ≡ 64
-long t {vs} p = sym (length-map t.items _) ∙ (LL.owed T.the_type T'.the_laws t vs p).0.1.0.1
+long t {vs} p = (LL.owed T.the_type T'.the_laws t vs p).0.1.0.1
 
 pub few : (t : Handles) {vs : List Val} → Is T.the_row t vs → length (entries_of handles_table t) ≤ 64
 few t p = table.few handles_table t (long t p)

@@ -20,7 +20,7 @@ use Rattle.records.proofs.trace.Hits.TheLaws as T'
 use Rattle.composition_arbitration.specs.Targets.{is_among}
 
 pub long : (t : Hits) {vs : List Val} → Is T.the_row t vs → length t.items ≡ 16
-long t {vs} p = sym (length-map t.items _) ∙ (LL.owed T.the_type T'.the_laws t vs p).0.1.0.1
+long t {vs} p = (LL.owed T.the_type T'.the_laws t vs p).0.1.0.1
 
 pub few : (t : Hits) {vs : List Val} → Is T.the_row t vs → length (entries_of hits t) ≤ 16
 few t p = table.few hits t (long t p)

@@ -25,7 +25,7 @@ use Rattle.composition_shortcuts.specs.contracts.register.Registrations as T
 use Rattle.composition_shortcuts.proofs.register.Registrations.TheLaws as T'
 
 pub long : (t : Registrations) {vs : List Val} → Is T.the_row t vs → length t.items ≡ 64
-long t {vs} p = sym (length-map t.items _) ∙ (LL.owed T.the_type T'.the_laws t vs p).0.1.0.1
+long t {vs} p = (LL.owed T.the_type T'.the_laws t vs p).0.1.0.1
 
 pub few : (t : Registrations) {vs : List Val} → Is T.the_row t vs → length (entries_of registrations t) ≤ 64
 few t p = table.few registrations t (long t p)

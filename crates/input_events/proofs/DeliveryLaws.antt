@@ -14,7 +14,7 @@ use Rattle.records.specs.contracts.trace.Deliveries as T
 use Rattle.records.proofs.trace.Deliveries.TheLaws as T'
 
 pub long : (t : Deliveries) {vs : List Val} → Is T.the_row t vs → length t.items ≡ 16
-long t {vs} p = sym (length-map t.items _) ∙ (LL.owed T.the_type T'.the_laws t vs p).0.1.0.1
+long t {vs} p = (LL.owed T.the_type T'.the_laws t vs p).0.1.0.1
 
 pub few : (t : Deliveries) {vs : List Val} → Is T.the_row t vs → length (entries_of deliveries t) ≤ 16
 few t p = table.few deliveries t (long t p)

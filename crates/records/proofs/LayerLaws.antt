@@ -34,7 +34,7 @@ use Rattle.records.specs.contracts.layers.Layers as T
 use Rattle.records.proofs.layers.Layers.TheLaws as T'
 
 pub long : (t : Layers) {vs : List Val} → Is T.the_row t vs → length t.items ≡ 16
-long t {vs} p = sym (length-map t.items _) ∙ (LL.owed T.the_type T'.the_laws t vs p).0.1.0.1
+long t {vs} p = (LL.owed T.the_type T'.the_laws t vs p).0.1.0.1
 
 pub few : (t : Layers) {vs : List Val} → Is T.the_row t vs → length (entries_of layers t) ≤ 16
 few t p = table.few layers t (long t p)

@@ -14,7 +14,7 @@ use Rattle.records.specs.contracts.shortcut.Shortcuts as T
 use Rattle.records.proofs.shortcut.Shortcuts.TheLaws as T'
 
 pub long : (t : Shortcuts) {vs : List Val} → Is T.the_row t vs → length t.entries ≡ 256
-long t {vs} p = sym (length-map t.entries _) ∙ (LL.owed T.the_type T'.the_laws t vs p).0.1.0.1
+long t {vs} p = (LL.owed T.the_type T'.the_laws t vs p).0.1.0.1
 
 pub few : (t : Shortcuts) {vs : List Val} → Is T.the_row t vs → length (entries_of shortcuts t) ≤ 256
 few t p = table.few shortcuts t (long t p)

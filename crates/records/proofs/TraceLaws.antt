@@ -14,7 +14,7 @@ use Rattle.records.specs.contracts.trace.Traces as T
 use Rattle.records.proofs.trace.Traces.TheLaws as T'
 
 pub long : (t : Traces) {vs : List Val} → Is T.the_row t vs → length t.items ≡ 32
-long t {vs} p = sym (length-map t.items _) ∙ (LL.owed T.the_type T'.the_laws t vs p).0.1.0.1
+long t {vs} p = (LL.owed T.the_type T'.the_laws t vs p).0.1.0.1
 
 pub few : (t : Traces) {vs : List Val} → Is T.the_row t vs → length (entries_of traces t) ≤ 32
 few t p = table.few traces t (long t p)

@@ -16,7 +16,7 @@ use Rattle.records.specs.contracts.view.ViewTable as T
 use Rattle.records.proofs.view.ViewTable.TheLaws as T'
 
 pub long : (t : ViewTable) {vs : List Val} → Is T.the_row t vs → length t.records ≡ 16
-long t {vs} p = sym (length-map t.records _) ∙ (LL.owed T.the_type T'.the_laws t vs p).1.0.1.0.1
+long t {vs} p = (LL.owed T.the_type T'.the_laws t vs p).1.0.1.0.1
 
 pub few_slots : (t : ViewTable) → view_slots t ≤ 16
 few_slots t = by_test (ltb t.arena.used 16)

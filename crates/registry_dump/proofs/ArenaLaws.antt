@@ -22,7 +22,7 @@ use Rattle.registry_dump.specs.Arenas.{slot_head, slot_numbers, index_numbers}
 
 -- ---- the free list
 pub long : (a : Arena) {vs : List Val} → Is T.the_row a vs → length a.free ≡ 64
-long a {vs} p = sym (length-map a.free _) ∙ (LL.owed T.the_type T'.the_laws a vs p).1.1.0.1.0.1
+long a {vs} p = (LL.owed T.the_type T'.the_laws a vs p).1.1.0.1.0.1
 
 module _ (a : Arena) {vs : List Val} (p : Is T.the_row a vs) where
   pub freed_below : a.freed < 64 → a.freed ≡ length (free_list a)

@@ -17,7 +17,7 @@ use Rattle.release_lists.specs.contracts.captures.CaptureList as C
 use Rattle.release_lists.proofs.captures.CaptureList.TheLaws as C'
 
 pub long_captures : (t : CaptureList) {vs : List Val} → Is C.the_row t vs → length t.items ≡ 512
-long_captures t {vs} p = sym (length-map t.items _) ∙ (LL.owed C.the_type C'.the_laws t vs p).0.1.0.1
+long_captures t {vs} p = (LL.owed C.the_type C'.the_laws t vs p).0.1.0.1
 
 pub few_captures : (t : CaptureList) {vs : List Val} → Is C.the_row t vs → length (entries_of capture_list t) ≤ 512
 few_captures t p = table.few capture_list t (long_captures t p)

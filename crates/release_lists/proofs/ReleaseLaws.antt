@@ -30,7 +30,7 @@ use Rattle.release_lists.specs.contracts.releases.Releases as T
 use Rattle.release_lists.proofs.releases.Releases.TheLaws as T'
 
 pub long : (t : Releases) {vs : List Val} → Is T.the_row t vs → length t.items ≡ 640
-long t {vs} p = sym (length-map t.items _) ∙ (LL.owed T.the_type T'.the_laws t vs p).0.1.0.1
+long t {vs} p = (LL.owed T.the_type T'.the_laws t vs p).0.1.0.1
 
 pub few : (t : Releases) {vs : List Val} → Is T.the_row t vs → length (entries_of releases t) ≤ 640
 few t p = table.few releases t (long t p)

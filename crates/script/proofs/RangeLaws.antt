@@ -22,7 +22,7 @@ use Rattle.script.proofs.line.Fields.TheLaws as T'
 
 -- a line's fields have 256 places
 pub long : (t : Fields) {vs : List Val} → Is T.the_row t vs → length t.numbers ≡ 256
-long t {vs} p = sym (length-map t.numbers _) ∙ (LL.owed T.the_type T'.the_laws t vs p).0.1.0.1
+long t {vs} p = (LL.owed T.the_type T'.the_laws t vs p).0.1.0.1
 
 pub unsigned_most : (most : ℕ) (n : Number) → unsigned_of most n ≤ most
 unsigned_most most n =

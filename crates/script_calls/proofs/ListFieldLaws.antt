@@ -37,10 +37,10 @@ i16_back z h = to_z-of_z {w = w16} {z = z} (record { sfits = h })
 
 -- the tables have 16 and 64 places: read off what their types own
 pub long_hits : (t : Hits) {vs : List Val} → Is H.the_row t vs → length t.items ≡ 16
-long_hits t {vs} p = sym (length-map t.items _) ∙ (LL.owed H.the_type H'.the_laws t vs p).0.1.0.1
+long_hits t {vs} p = (LL.owed H.the_type H'.the_laws t vs p).0.1.0.1
 
 pub long_list : (t : RegistrationsField) {vs : List Val} → Is R.the_row t vs → length t.items ≡ 64
-long_list t {vs} p = sym (length-map t.items _) ∙ (LL.owed R.the_type R'.the_laws t vs p).0.1.0.1
+long_list t {vs} p = (LL.owed R.the_type R'.the_laws t vs p).0.1.0.1
 
 pub length_below : (n : ℕ) → length (below n) ≡ n
 unfolding below

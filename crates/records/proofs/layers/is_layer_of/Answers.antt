@@ -1,0 +1,12 @@
+-- `is_layer_of` meets its contract, by the cases of the lookup.
+use borrow.Author.Rules.{rules}
+use Rattle.records.proofs.layers.is_layer_of.Goals as goal
+
+pub returns-in-Live : goal.returns-in-Live
+returns-in-Live c = simp (← c.same_handle.ensures, c.in-Live.is, ← c.lookup.ensures)
+
+pub returns-in-Invalid : goal.returns-in-Invalid
+returns-in-Invalid c = simp (c.in-Invalid.is, ← c.lookup.ensures)
+
+pub returns-in-Stale : goal.returns-in-Stale
+returns-in-Stale c = simp (c.in-Stale.is, ← c.lookup.ensures)

@@ -1,0 +1,10 @@
+-- `SurfaceTable::refusal` meets its contract: the lookup's answer decides.
+use borrow.Author.Rules.{rules}
+use Rattle.records.proofs.surface.SurfaceTable.refusal.Goals as goal
+
+pub returns : goal.returns
+returns c =
+    simp (
+      ← c.refuse_status.ensures,
+      ← c.lookup.ensures,
+    )

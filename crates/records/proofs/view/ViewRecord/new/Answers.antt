@@ -1,0 +1,6 @@
+-- `ViewRecord::new` meets its contract: each part is its own fresh value.
+use borrow.Author.Rules.{rules}
+use Rattle.records.proofs.view.ViewRecord.new.Goals as goal
+
+pub returns : goal.returns
+returns c = rw (c.default-metrics.ensures, c.new-surfaces.ensures, c.new-pointer_captures.ensures)
