@@ -2,11 +2,11 @@
 use Prim.Native.Nat.{ℕ, zero, suc, ◌+◌, ◌-◌, ◌≤◌, ◌<◌, ◌^◌}
 use mathlib.Core.Bool.{not}
 use mathlib.Core.List.{List}
-use mathlib.Core.Path.{◌≡◌, refl, sym, ap, ◌∙◌}
+use mathlib.Core.Path.{◌≡◌, refl, ap}
 use native.Mathlib.Omega.{arith}
 use lib.Dec.{leb}
 use lib.IntN.{pos, negsuc, neg_ℤ, ◌-ℤ◌}
-use lib.ListN.{length, length-map}
+use lib.ListN.{length}
 use lib.Signed.{mag}
 use mir.Syntax.{Width}
 use mir.Val.{Val, SFits, hbits}
@@ -22,7 +22,7 @@ use Rattle.script.proofs.line.Fields.TheLaws as T'
 
 -- a line's fields have 256 places
 pub long : (t : Fields) {vs : List Val} → Is T.the_row t vs → length t.numbers ≡ 256
-long t {vs} p = sym (length-map t.numbers _) ∙ (LL.owed T.the_type T'.the_laws t vs p).0.1.0.1
+long t {vs} p = (LL.owed T.the_type T'.the_laws t vs p).0.1.0.1
 
 pub unsigned_most : (most : ℕ) (n : Number) → unsigned_of most n ≤ most
 unsigned_most most n =
