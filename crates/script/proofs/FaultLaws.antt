@@ -1,10 +1,10 @@
 -- A line has a fault exactly if it is read as no verb: gathering numbers keeps the verb, or leaves none.
 use Prim.Native.Nat.{ℕ}
-use mathlib.Core.Path.{◌≡◌, refl, sym, ap, ◌∙◌}
-use mathlib.Core.Bool.{true, false, cond, ◌&&◌}
+use mathlib.Core.Path.{◌≡◌, sym}
+use mathlib.Core.Bool.{true, ◌&&◌}
 use mathlib.Core.List.{List, [], ◌∷◌, ◌++◌}
 use borrow.Author.Tests.{ltb-true, ltb-false, lt-leb, le-leb}
-use lib.Dec.{ltb, leb}
+use lib.Dec.{ltb}
 use lib.ListN.{length}
 use Rattle.lists.proofs.ListLaws.{by_test}
 use Rattle.script.specs.declared.number.Number.{Number}

@@ -2,11 +2,11 @@
 use Prim.Native.Nat.{ℕ, zero, suc, ◌+◌, ◌-◌, ◌≤◌, ◌<◌, ◌^◌}
 use mathlib.Core.Bool.{not}
 use mathlib.Core.List.{List}
-use mathlib.Core.Path.{◌≡◌, refl, sym, ap, ◌∙◌}
+use mathlib.Core.Path.{◌≡◌, refl, ap}
 use native.Mathlib.Omega.{arith}
 use lib.Dec.{leb}
 use lib.IntN.{pos, negsuc, neg_ℤ, ◌-ℤ◌}
-use lib.ListN.{length, length-map}
+use lib.ListN.{length}
 use lib.Signed.{mag}
 use mir.Syntax.{Width}
 use mir.Val.{Val, SFits, hbits}

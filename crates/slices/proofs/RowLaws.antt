@@ -1,6 +1,6 @@
 -- A row put back is that row, and the others are as they were.
-use Prim.Native.Nat.{ℕ, zero, suc, ◌+◌, ◌*◌, ◌-◌, ◌≤◌, ◌<◌}
-use mathlib.Core.Path.{◌≡◌, refl, sym, ap, ◌∙◌}
+use Prim.Native.Nat.{ℕ, suc, ◌+◌, ◌*◌, ◌-◌, ◌≤◌, ◌<◌}
+use mathlib.Core.Path.{◌≡◌, sym, ap, ◌∙◌}
 use mathlib.Core.List.{List, [], ◌∷◌, ◌++◌}
 use lib.Dec.{ltb}
 use borrow.Author.Tests.{ltb-true, ltb-false}
@@ -9,7 +9,7 @@ use Rattle.lists.proofs.TableLaws.{entry}
 use native.Mathlib.Nat.{suc-mul, mul-le-mul_right}
 use native.Mathlib.Numerals.{add-one}
 use native.Mathlib.Omega.{arith}
-use lib.ListN.{length, take, drop, get_or, length-append, length-take, length-drop}
+use lib.ListN.{length, take, drop, get_or, length-take, length-drop}
 use lib.Seq.{take-suc, ext_get_or}
 use borrow.Rule.Slice.PartMut.{put_mid, same_len_mid}
 use Rattle.lists.specs.Tables.{Shape, entries_of, packed}

@@ -1,5 +1,4 @@
 -- `as_flag` meets its contract: what is read within the range is 1 or it is not.
-use borrow.Author.Rules.{rules}
 use Rattle.script.proofs.fields.as_flag.Goals as goal
 
 pub returns : goal.returns

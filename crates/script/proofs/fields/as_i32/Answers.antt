@@ -2,7 +2,6 @@
 use lib.Dec.{lit<}
 use mir.Facts.{to_z-of_z}
 use mir.Syntax.{w32, w64}
-use borrow.Author.Rules.{rules}
 use Rattle.script.proofs.RangeLaws.{signed_fits}
 use Rattle.script.proofs.fields.as_i32.Goals as goal
 

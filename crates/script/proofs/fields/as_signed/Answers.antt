@@ -6,7 +6,6 @@ use lib.IntN.{pos, neg_ℤ, ◌-ℤ◌}
 use mir.Facts.{to_z-of_z, to_z_pos}
 use mir.Syntax.{w64}
 use mir.Val.{SFits, to_z}
-use borrow.Author.Rules.{rules}
 use borrow.Author.Tests.{le-leb, lt-leb}
 use Rattle.script.proofs.RangeLaws.{negated_mag, zero_minus}
 use Rattle.script.proofs.fields.as_signed.Goals as goal

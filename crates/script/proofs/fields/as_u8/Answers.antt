@@ -1,7 +1,6 @@
 -- `as_u8` meets its contract: what is read within the range fits 8 bits.
 use mathlib.Core.Path.{ap}
 use native.Mathlib.Omega.{arith}
-use borrow.Author.Rules.{rules}
 use Rattle.script.specs.declared.fields.FieldU64.{FieldU64}
 use Rattle.script.proofs.RangeLaws.{unsigned_most}
 use Rattle.script.proofs.fields.as_u8.Goals as goal

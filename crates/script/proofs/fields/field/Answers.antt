@@ -1,5 +1,4 @@
 -- `field` meets its contract: past the table a read is 0.
-use borrow.Author.Rules.{rules}
 use Rattle.lists.proofs.ListLaws.{past_get}
 use Rattle.script.proofs.RangeLaws.{long}
 use Rattle.script.proofs.fields.field.Goals as goal

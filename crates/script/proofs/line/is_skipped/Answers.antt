@@ -1,5 +1,4 @@
 -- `is_skipped` meets its contract: the test of the length is the definition's.
-use borrow.Author.Rules.{rules}
 use borrow.Author.Tests.{eq-eqb, ne_eqb}
 use Rattle.script.proofs.line.is_skipped.Goals as goal
 

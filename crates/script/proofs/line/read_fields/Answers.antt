@@ -1,12 +1,9 @@
 -- `read_fields` meets its contract: each turn reads one word, and the words to come answer as all of them.
-use Prim.Native.Nat.{◌+◌, ◌-◌}
 use mathlib.Core.Path.{sym, ap, ◌∙◌}
 use native.Mathlib.Omega.{arith}
-use lib.ListN.{length}
-use borrow.Author.Rules.{rules}
 use Rattle.script.specs.declared.number.Reading.{Reading}
 use Rattle.script.proofs.WordLaws.{word_within}
-use Rattle.script.proofs.LineLaws.{Gathering, start, done, stops, fills, turn}
+use Rattle.script.proofs.LineLaws.{start, done, stops, fills, turn}
 use Rattle.script.proofs.line.read_fields.Goals as goal
 
 pub loop-at-init : goal.loop-at-init
@@ -29,3 +26,6 @@ loop-at-preserved c = rw c.read_number-reading.ensures (turn _ _ _ _ _ _ c.loop-
 
 pub returns : goal.returns
 returns c = done _ _ _ _ _ _ c.loop-at.invariant c.loop-at-test.false
+
+pub slice_bounds-read_number-end : goal.slice_bounds-read_number-end
+slice_bounds-read_number-end c = omega (arith, word_within c.args.line.now c.loop-at.at c.find-end.result c.loop-at-test.true c.find-end.ensures)

@@ -1,12 +1,7 @@
 -- `read_fields` meets its contract: each turn reads one word, and the words to come answer as all of them.
 use Prim.Native.Nat.{◌+◌, ◌-◌}
-use mathlib.Core.Path.{sym, ap, ◌∙◌}
-use native.Mathlib.Omega.{arith}
 use lib.ListN.{length}
-use borrow.Author.Rules.{rules}
-use Rattle.script.specs.declared.number.Reading.{Reading}
-use Rattle.script.proofs.WordLaws.{word_within}
-use Rattle.script.proofs.LineLaws.{Gathering, start, done, stops, fills, turn}
+use Rattle.script.proofs.LineLaws.{Gathering}
 use Rattle.script.proofs.line.read_fields.Given as goal
 
 abbrev pub invariant-loop-at : goal.invariant-loop-at

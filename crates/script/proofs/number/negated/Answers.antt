@@ -1,6 +1,5 @@
 -- `negated` meets its contract: its two tests are the definition's.
 use mathlib.Core.Path.{◌∙◌}
-use borrow.Author.Rules.{rules}
 use borrow.Author.Tests.{eq-eqb, ne_eqb}
 use Rattle.script.proofs.number.negated.Goals as goal
 

@@ -1,7 +1,6 @@
 -- `push_digit` meets its contract: each test that fails is one of the definition's.
 use mathlib.Core.Path.{◌∙◌, sym}
 use native.Mathlib.Omega.{arith}
-use borrow.Author.Rules.{rules}
 use Rattle.script.proofs.NumberLaws.{push_stopped, push_below, push_above, push_large, push_more}
 use Rattle.script.proofs.number.push_digit.Goals as goal
 

@@ -1,13 +1,9 @@
 -- `read_digits` meets its contract: after i turns the number is that of the first i digits.
 use Prim.Native.Nat.{◌-◌}
 use mathlib.Core.List.{foldl}
-use mathlib.Core.Path.{◌≡◌, refl, sym, ◌∙◌}
-use native.Mathlib.Omega.{arith}
+use mathlib.Core.Path.{◌≡◌}
 use lib.ListN.{length, take}
-use lib.Seq.{take_all}
-use borrow.Author.Rules.{rules}
-use Rattle.script.specs.Numbers.{push_digit, digits_of}
-use Rattle.script.proofs.NumberLaws.{fold_next}
+use Rattle.script.specs.Numbers.{push_digit}
 use Rattle.script.proofs.number.read_digits.Given as goal
 
 abbrev pub invariant-loop-i : goal.invariant-loop-i

@@ -1,6 +1,5 @@
 -- `read_magnitude` meets its contract: the tests of the length and of the first digit are the definition's.
 use mathlib.Core.Path.{◌∙◌}
-use borrow.Author.Rules.{rules}
 use borrow.Author.Tests.{eq-eqb, ne_eqb}
 use Rattle.script.specs.Numbers.{magnitude_of}
 use Rattle.script.proofs.number.read_magnitude.Goals as goal

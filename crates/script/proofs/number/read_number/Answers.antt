@@ -1,6 +1,5 @@
 -- `read_number` meets its contract: the test of the first byte is the definition's.
 use mathlib.Core.Path.{◌∙◌, ap}
-use borrow.Author.Rules.{rules}
 use borrow.Author.Tests.{eq-eqb, ne_eqb}
 use Rattle.script.specs.Numbers.{number_of, plain_of, negated_of, magnitude_of}
 use Rattle.script.proofs.NumberLaws.{number_empty}

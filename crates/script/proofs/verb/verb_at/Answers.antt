@@ -1,6 +1,5 @@
 -- `verb_at` meets its contract: past the table a read is `Unknown`.
 use mathlib.Core.Path.{refl}
-use borrow.Author.Rules.{rules}
 use Rattle.lists.proofs.ListLaws.{past_get}
 use Rattle.script.specs.Verbs.{verbs}
 use Rattle.script.proofs.verb.verb_at.Goals as goal

@@ -2,7 +2,6 @@
 use Prim.Native.Nat.{ℕ}
 use mathlib.Core.Path.{ap, ◌∙◌}
 use lib.ListN.{get_or}
-use borrow.Author.Rules.{rules}
 use Rattle.script.specs.declared.verb.Verb.TheVariants.{Unknown}
 use Rattle.script.specs.Words.{words_from}
 use Rattle.script.specs.Verbs.{table, verbs, verb_named}

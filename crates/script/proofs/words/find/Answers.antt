@@ -1,9 +1,5 @@
 -- `find` meets its contract: what is still to be searched ends where the whole does.
-use Prim.Native.Nat.{◌+◌, ◌-◌}
-use mathlib.Core.Path.{◌≡◌, refl, sym, ◌∙◌}
-use native.Mathlib.Omega.{arith}
-use lib.ListN.{length, drop}
-use Rattle.script.specs.Words.{up_to}
+use mathlib.Core.Path.{refl, sym, ◌∙◌}
 use Rattle.script.proofs.WordLaws.{find_here, find_next, find_end}
 use Rattle.script.proofs.words.find.Goals as goal
 

@@ -1,10 +1,8 @@
 -- `find` meets its contract: what is still to be searched ends where the whole does.
 use Prim.Native.Nat.{◌+◌, ◌-◌}
-use mathlib.Core.Path.{◌≡◌, refl, sym, ◌∙◌}
-use native.Mathlib.Omega.{arith}
+use mathlib.Core.Path.{◌≡◌}
 use lib.ListN.{length, drop}
 use Rattle.script.specs.Words.{up_to}
-use Rattle.script.proofs.WordLaws.{find_here, find_next, find_end}
 use Rattle.script.proofs.words.find.Given as goal
 
 abbrev pub invariant-loop-i : goal.invariant-loop-i

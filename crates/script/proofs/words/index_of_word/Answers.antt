@@ -1,11 +1,7 @@
 -- `index_of_word` meets its contract: the words still to be passed answer as all of them.
-use Prim.Native.Nat.{◌+◌, ◌-◌, ◌≤◌}
-use mathlib.Core.Path.{◌≡◌, sym, ◌∙◌}
+use mathlib.Core.Path.{sym, ◌∙◌}
 use native.Mathlib.Nat.{zero-add, add-zero}
 use native.Mathlib.Omega.{arith}
-use lib.ListN.{length}
-use borrow.Author.Rules.{rules}
-use Rattle.script.specs.Words.{index_in, words_from}
 use Rattle.script.proofs.WordLaws.{word_within, index_here, index_next, words_past}
 use Rattle.script.proofs.words.index_of_word.Goals as goal
 
@@ -26,3 +22,6 @@ loop-at-preserved c = (omega (arith, c.find-end.ensures), c.loop-at.invariant.1 
 
 pub returns : goal.returns
 returns c = sym (c.loop-at.invariant.1 ∙ rw (words_past c.args.text.now c.loop-at.at (omega arith)) (add-zero _))
+
+pub slice_bounds-same_bytes-end : goal.slice_bounds-same_bytes-end
+slice_bounds-same_bytes-end c = omega (arith, word_within c.args.text.now c.loop-at.at c.find-end.result c.loop-at-test.true c.find-end.ensures)

@@ -1,12 +1,8 @@
 -- `index_of_word` meets its contract: the words still to be passed answer as all of them.
 use Prim.Native.Nat.{◌+◌, ◌-◌, ◌≤◌}
-use mathlib.Core.Path.{◌≡◌, sym, ◌∙◌}
-use native.Mathlib.Nat.{zero-add, add-zero}
-use native.Mathlib.Omega.{arith}
+use mathlib.Core.Path.{◌≡◌}
 use lib.ListN.{length}
-use borrow.Author.Rules.{rules}
 use Rattle.script.specs.Words.{index_in, words_from}
-use Rattle.script.proofs.WordLaws.{word_within, index_here, index_next, words_past}
 use Rattle.script.proofs.words.index_of_word.Given as goal
 
 abbrev pub invariant-loop-at : goal.invariant-loop-at

@@ -1,9 +1,6 @@
 -- `same_bytes` meets its contract: what is still to be compared answers as the whole.
-use Prim.Native.Nat.{◌-◌}
-use mathlib.Core.Path.{◌≡◌, refl, sym, ◌∙◌}
+use mathlib.Core.Path.{refl, sym, ◌∙◌}
 use native.Mathlib.Omega.{arith}
-use lib.ListN.{length, drop}
-use Rattle.script.specs.Words.{same}
 use Rattle.script.proofs.WordLaws.{same_length, same_next, same_apart, same_end}
 use Rattle.script.proofs.words.same_bytes.Goals as goal
 
