@@ -58,8 +58,8 @@ trace_lengths t {vs} p =
     let h = LL.owed H.the_type H'.the_laws t.hits _ o.0 in
     let d = LL.owed D.the_type D'.the_laws t.deliveries _ o.1.0 in
     record {
-      hits = sym (length-map t.hits.items _) ∙ h.0.1.0.1;
-      deliveries = sym (length-map t.deliveries.items _) ∙ d.0.1.0.1;
+      hits = h.0.1.0.1;
+      deliveries = d.0.1.0.1;
     }
 
 pub counter_lengths : (k : Counter) {vs : List Val} → Is K.the_row k vs → Lengths k

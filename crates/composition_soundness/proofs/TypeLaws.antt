@@ -21,8 +21,8 @@ arena_whole : (a : Arena) {vs : List Val} → Is A.the_row a vs → WholeArena a
 arena_whole a {vs} p =
     let o = LL.owed A.the_type A'.the_laws a vs p in
     record {
-      slots = sym (length-map a.slots _) ∙ o.0.1.0.1;
-      free = sym (length-map a.free _) ∙ o.1.1.0.1.0.1;
+      slots = o.0.1.0.1;
+      free = o.1.1.0.1.0.1;
     }
 
 pub registry_whole : (r : CompositionRegistry) {vs : List Val} → Is R.the_row r vs → Whole r
@@ -34,6 +34,6 @@ registry_whole r {vs} p =
       windows = arena_whole r.windows o.0;
       views = arena_whole r.views.arena v.0;
       surfaces = arena_whole r.surfaces.arena s.0;
-      view_records = sym (length-map r.views.records _) ∙ v.1.0.1.0.1;
-      surface_records = sym (length-map r.surfaces.records _) ∙ s.1.0.1.0.1;
+      view_records = v.1.0.1.0.1;
+      surface_records = s.1.0.1.0.1;
     }

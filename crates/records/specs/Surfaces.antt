@@ -1,5 +1,5 @@
 -- Panels: their records by slot.
-use Rattle.std.specs.Prelude.{Bool, true, false, List, get_or, set, pos}
+use Rattle.std.specs.Prelude.{Bool, true, false, get_or, set, pos}
 use Rattle.geometry.specs.declared.rect.OptionalRect.TheVariants as rect
 use Rattle.geometry.specs.declared.surface.SurfaceGeometry.{SurfaceGeometry}
 use Rattle.handles.specs.Handles.{handle_of}

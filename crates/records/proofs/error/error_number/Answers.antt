@@ -1,5 +1,4 @@
 -- `error_number` meets its contract, case by case.
-use borrow.Author.Rules.{rules}
 use Rattle.records.proofs.error.error_number.Goals as goal
 
 pub returns-in-InvalidConfig : goal.returns-in-InvalidConfig

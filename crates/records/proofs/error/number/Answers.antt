@@ -1,5 +1,4 @@
 -- `number` meets its contract, by the cases of the outcome.
-use borrow.Author.Rules.{rules}
 use Rattle.records.proofs.error.number.Goals as goal
 
 pub returns-in-Refused : goal.returns-in-Refused

@@ -1,5 +1,4 @@
 -- `refuse_status` meets its contract, by the cases of the status.
-use borrow.Author.Rules.{rules}
 use Rattle.records.proofs.error.refuse_status.Goals as goal
 
 pub returns-in-Live : goal.returns-in-Live

@@ -1,5 +1,4 @@
 -- `is_layer_of` meets its contract, by the cases of the lookup.
-use borrow.Author.Rules.{rules}
 use Rattle.records.proofs.layers.is_layer_of.Goals as goal
 
 pub returns-in-Live : goal.returns-in-Live

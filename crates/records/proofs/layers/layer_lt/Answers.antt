@@ -1,6 +1,5 @@
 -- `layer_lt` meets its contract: the order of the two records and handles.
 use Rattle.records.specs.Layers.{layer_lt}
-use borrow.Author.Rules.{rules}
 use Rattle.records.proofs.layers.layer_lt.Goals as goal
 
 pub returns : goal.returns

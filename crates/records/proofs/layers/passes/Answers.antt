@@ -1,5 +1,4 @@
 -- `layers::passes` meets its contract, by the cases of the test.
-use borrow.Author.Rules.{rules}
 use Rattle.records.proofs.layers.passes.Goals as goal
 
 pub returns-in-Below : goal.returns-in-Below

@@ -1,5 +1,4 @@
 -- `record_lt` meets its contract: the two z_orders decide, and else the handles.
-use borrow.Author.Rules.{rules}
 use Rattle.records.proofs.layers.record_lt.Goals as goal
 
 pub returns-then-is_lower : goal.returns-then-is_lower

@@ -1,5 +1,4 @@
 -- `Outcome::then` meets its contract, by the cases of the first outcome.
-use borrow.Author.Rules.{rules}
 use Rattle.records.proofs.error.Outcome.then.Goals as goal
 
 pub returns-in-Refused : goal.returns-in-Refused

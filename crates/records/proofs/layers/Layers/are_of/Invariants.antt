@@ -1,20 +1,16 @@
 -- `Layers::are_of` meets its contract: after i turns the answer is that of the first i layers, for all records that stand in the places.
-use native.Mathlib.Omega.{arith}
-use Prim.Native.Nat.{◌≤◌, ◌<◌, ◌-◌}
-use mathlib.Core.Path.{◌≡◌, refl, ap, ◌∙◌}
-use mathlib.Core.Bool.{Bool, false, cond, ◌&&◌}
+use Prim.Native.Nat.{◌≤◌, ◌-◌}
+use mathlib.Core.Path.{◌≡◌}
+use mathlib.Core.Bool.{Bool, false, cond}
 use mathlib.Core.List.{List}
-use lib.ListN.{length}
-use Rattle.lists.specs.Tables.{entries_of}
-use Rattle.lists.proofs.LoopLaws.{Tested, test_next, test_end}
-use Rattle.handles.specs.Handles.{handle_of, same_handle}
+use Rattle.lists.proofs.LoopLaws.{Tested}
+use Rattle.handles.specs.Handles.{same_handle}
 use Rattle.handles.specs.Slots.{lookup_of}
 use Rattle.handles.specs.declared.arena.Arena.{Arena}
 use Rattle.handles.specs.declared.GenerationalHandle.{GenerationalHandle}
 use Rattle.records.specs.declared.surface.SurfaceRecord.{SurfaceRecord}
-use Rattle.records.specs.Layers.{layers, is_live, is_layer_of, records_of}
-use Rattle.records.proofs.LayerLaws.{few, record_at, record_here}
-use borrow.Author.Rules.{rules}
+use Rattle.records.specs.Layers.{layers, is_live, records_of}
+use Rattle.records.proofs.LayerLaws.{record_at}
 use Rattle.records.proofs.layers.Layers.are_of.Given as goal
 
 -- the test of one layer, on the slots and the records

@@ -1,19 +1,17 @@
 -- `Layers::extend` meets its contract: after i turns the map holds its own entries and those of the first i that pass.
-use Prim.Native.Nat.{◌≤◌, ◌<◌, ◌-◌}
+use Prim.Native.Nat.{◌<◌}
 use mathlib.Core.Path.{◌≡◌, sym, ap, ◌∙◌}
-use mathlib.Core.Logic.{⊎_elim}
-use mathlib.Core.List.{◌++◌, append-nil}
+use mathlib.Core.List.{append-nil}
 use native.Mathlib.Omega.{arith}
-use borrow.Author.Rules.{rules}
-use lib.ListN.{length, take}
+use lib.ListN.{length}
 use lib.Seq.{take-length}
-use Rattle.lists.specs.Lists.{keep}
 use Rattle.lists.specs.Tables.{entries_of, packed}
 use Rattle.lists.proofs.TableLaws.{len_packed, turn_room, turn_yes, turn_no}
 use Rattle.records.specs.declared.layers.Layers.{Layers}
 use Rattle.records.specs.Layers.{layers, layer_passes}
 use Rattle.records.proofs.LayerLaws.{few}
 use Rattle.records.proofs.layers.Layers.extend.Goals as goal
+use Rattle.records.proofs.layers.Layers.extend.Goals.{then-passes, else-passes}
 
 pub loop-i-init : goal.loop-i-init
 loop-i-init c = (omega arith, omega (arith, few c.args.from c.well_formed.1.0), c.requires.self_value ∙ ap (packed layers) (sym (append-nil _)))
@@ -32,10 +30,10 @@ loop-i-preserved c =
     let within : l.i < length (entries_of layers a.from) = omega arith in (
       omega arith,
       omega arith,
-      ⊎_elim
-          (λ w. w.2 ∙ w.1.ensures ∙ rw l.invariant.2 (turn_yes layers (layer_passes a.records a.test) a.from l.i _ within (entries_of layers a.self) (sym c.passes.ensures ∙ w.0.taken) c.requires.from_len_bound))
-          (λ w. w.1 ∙ l.invariant.2 ∙ turn_no layers (layer_passes a.records a.test) a.from l.i _ within (entries_of layers a.self) (sym c.passes.ensures ∙ w.0.left))
-          c.if-passes.branch,
+      elim c.if-passes.branch [
+        | then-passes w ↦ w.next-is ∙ w.push-next.ensures ∙ rw l.invariant.2 (turn_yes layers (layer_passes a.records a.test) a.from l.i _ within (entries_of layers a.self) (sym c.passes.ensures ∙ w.if-passes.true) c.requires.from_len_bound)
+        | else-passes w ↦ w.next-is ∙ l.invariant.2 ∙ turn_no layers (layer_passes a.records a.test) a.from l.i _ within (entries_of layers a.self) (sym c.passes.ensures ∙ w.if-passes.false)
+      ],
     )
 
 pub returns : goal.returns

@@ -1,18 +1,11 @@
 -- `Layers::extend` meets its contract: after i turns the map holds its own entries and those of the first i that pass.
-use Prim.Native.Nat.{◌≤◌, ◌<◌, ◌-◌}
-use mathlib.Core.Path.{◌≡◌, sym, ap, ◌∙◌}
-use mathlib.Core.Logic.{⊎_elim}
-use mathlib.Core.List.{◌++◌, append-nil}
-use native.Mathlib.Omega.{arith}
-use borrow.Author.Rules.{rules}
-use lib.ListN.{length, take}
-use lib.Seq.{take-length}
+use Prim.Native.Nat.{◌≤◌, ◌-◌}
+use mathlib.Core.Path.{◌≡◌}
+use mathlib.Core.List.{◌++◌}
+use lib.ListN.{take}
 use Rattle.lists.specs.Lists.{keep}
 use Rattle.lists.specs.Tables.{entries_of, packed}
-use Rattle.lists.proofs.TableLaws.{len_packed, turn_room, turn_yes, turn_no}
-use Rattle.records.specs.declared.layers.Layers.{Layers}
 use Rattle.records.specs.Layers.{layers, layer_passes}
-use Rattle.records.proofs.LayerLaws.{few}
 use Rattle.records.proofs.layers.Layers.extend.Given as goal
 
 abbrev pub invariant-loop-i : goal.invariant-loop-i

@@ -1,16 +1,13 @@
 -- `Layers::is_rising` meets its contract: what is still to be compared rises exactly if the whole does, for all records that stand in the places.
 use native.Mathlib.Omega.{arith}
-use Prim.Native.Nat.{◌≤◌, ◌<◌, ◌-◌, ◌+◌}
-use mathlib.Core.Path.{◌≡◌, refl, sym, ◌∙◌}
-use mathlib.Core.List.{List}
+use Prim.Native.Nat.{◌≤◌, ◌<◌, ◌+◌}
+use mathlib.Core.Path.{refl, sym, ◌∙◌}
 use lib.ListN.{length}
 use Rattle.lists.specs.Tables.{entries_of}
-use Rattle.lists.proofs.LoopLaws.{Compared, rising_fails, rising_on, rising_stop}
+use Rattle.lists.proofs.LoopLaws.{rising_fails, rising_on, rising_stop}
 use Rattle.handles.specs.Handles.{handle_of}
-use Rattle.records.specs.declared.surface.SurfaceRecord.{SurfaceRecord}
-use Rattle.records.specs.Layers.{layers, itself, layer_lt, records_of}
+use Rattle.records.specs.Layers.{layers, itself, layer_lt}
 use Rattle.records.proofs.LayerLaws.{few, lt_here}
-use borrow.Author.Rules.{rules}
 use Rattle.records.proofs.layers.Layers.is_rising.Goals as goal
 
 pub loop-i-init : goal.loop-i-init

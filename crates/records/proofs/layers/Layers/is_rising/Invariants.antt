@@ -1,16 +1,10 @@
 -- `Layers::is_rising` meets its contract: what is still to be compared rises exactly if the whole does, for all records that stand in the places.
-use native.Mathlib.Omega.{arith}
-use Prim.Native.Nat.{◌≤◌, ◌<◌, ◌-◌, ◌+◌}
-use mathlib.Core.Path.{◌≡◌, refl, sym, ◌∙◌}
+use Prim.Native.Nat.{◌≤◌, ◌-◌}
+use mathlib.Core.Path.{◌≡◌}
 use mathlib.Core.List.{List}
-use lib.ListN.{length}
-use Rattle.lists.specs.Tables.{entries_of}
-use Rattle.lists.proofs.LoopLaws.{Compared, rising_fails, rising_on, rising_stop}
-use Rattle.handles.specs.Handles.{handle_of}
+use Rattle.lists.proofs.LoopLaws.{Compared}
 use Rattle.records.specs.declared.surface.SurfaceRecord.{SurfaceRecord}
 use Rattle.records.specs.Layers.{layers, itself, layer_lt, records_of}
-use Rattle.records.proofs.LayerLaws.{few, lt_here}
-use borrow.Author.Rules.{rules}
 use Rattle.records.proofs.layers.Layers.is_rising.Given as goal
 
 abbrev pub invariant-loop-i : goal.invariant-loop-i

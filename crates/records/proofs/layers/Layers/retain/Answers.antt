@@ -1,7 +1,6 @@
 -- `Layers::retain` meets its contract: it extends the empty map.
 use mathlib.Core.Path.{◌∙◌}
 use native.Mathlib.Omega.{arith}
-use borrow.Author.Rules.{rules}
 use Rattle.lists.specs.Tables.{entries_of}
 use Rattle.lists.proofs.ListLaws.{length_keep}
 use Rattle.lists.proofs.TableLaws.{entries_packed}

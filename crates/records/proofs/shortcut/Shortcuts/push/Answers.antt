@@ -1,6 +1,5 @@
 -- `Shortcuts::push` meets its contract: one place is set, and the count rises by 1.
 use mathlib.Core.Path.{refl}
-use borrow.Author.Rules.{rules}
 use Rattle.lists.specs.Tables.{pushed}
 use Rattle.records.proofs.shortcut.Shortcuts.push.Goals as goal
 

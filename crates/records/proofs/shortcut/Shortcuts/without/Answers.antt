@@ -1,20 +1,19 @@
 -- `Shortcuts::without` meets its contract: after each turn the entries of other slots that were passed stand in the new table.
-use Prim.Native.Nat.{◌≤◌, ◌<◌, ◌-◌, ◌+◌}
+use Prim.Native.Nat.{◌≤◌, ◌<◌, ◌+◌}
 use mathlib.Core.Path.{◌≡◌, sym, ap, ◌∙◌}
-use mathlib.Core.Logic.{⊎_elim}
 use mathlib.Core.List.{[]}
 use native.Mathlib.Omega.{arith}
-use borrow.Author.Rules.{rules}
-use lib.ListN.{length, take}
+use lib.ListN.{length}
 use lib.Seq.{take-length}
 use Rattle.lists.specs.Lists.{keep}
-use Rattle.lists.specs.Tables.{entries_of, packed}
+use Rattle.lists.specs.Tables.{entries_of}
 use Rattle.lists.proofs.ListLaws.{length_keep}
 use Rattle.lists.proofs.TableLaws.{len_packed, turn_room, turn_yes, turn_no}
 use Rattle.records.specs.declared.shortcut.Shortcuts.{Shortcuts}
 use Rattle.records.specs.Shortcuts.{shortcuts, is_of_other_slot}
 use Rattle.records.proofs.ShortcutLaws.{few}
 use Rattle.records.proofs.shortcut.Shortcuts.without.Goals as goal
+use Rattle.records.proofs.shortcut.Shortcuts.without.Goals.{then-is_of_other_slot, else-is_of_other_slot}
 
 pub loop-i-init : goal.loop-i-init
 loop-i-init c = (omega arith, omega (arith, few c.args.self c.well_formed.0), c.new-next.ensures)
@@ -34,10 +33,10 @@ loop-i-preserved c =
     let fits : 0 + length (keep (is_of_other_slot a.slot) (entries_of shortcuts a.self)) ≤ 256 = omega (arith, length_keep (is_of_other_slot a.slot) (entries_of shortcuts a.self), few a.self c.well_formed.0) in (
       omega arith,
       omega arith,
-      ⊎_elim
-          (λ w. w.2 ∙ w.1.ensures ∙ rw l.invariant.2 (turn_yes shortcuts (is_of_other_slot a.slot) a.self l.i _ within [] (sym c.is_of_other_slot.ensures ∙ w.0.taken) fits))
-          (λ w. w.1 ∙ l.invariant.2 ∙ turn_no shortcuts (is_of_other_slot a.slot) a.self l.i _ within [] (sym c.is_of_other_slot.ensures ∙ w.0.left))
-          c.if-is_of_other_slot.branch,
+      elim c.if-is_of_other_slot.branch [
+        | then-is_of_other_slot w ↦ w.next-is ∙ w.push-next.ensures ∙ rw l.invariant.2 (turn_yes shortcuts (is_of_other_slot a.slot) a.self l.i _ within [] (sym c.is_of_other_slot.ensures ∙ w.if-is_of_other_slot.true) fits)
+        | else-is_of_other_slot w ↦ w.next-is ∙ l.invariant.2 ∙ turn_no shortcuts (is_of_other_slot a.slot) a.self l.i _ within [] (sym c.is_of_other_slot.ensures ∙ w.if-is_of_other_slot.false)
+      ],
     )
 
 pub returns : goal.returns

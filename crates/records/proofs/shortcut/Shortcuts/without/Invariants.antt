@@ -1,19 +1,10 @@
 -- `Shortcuts::without` meets its contract: after each turn the entries of other slots that were passed stand in the new table.
-use Prim.Native.Nat.{◌≤◌, ◌<◌, ◌-◌, ◌+◌}
-use mathlib.Core.Path.{◌≡◌, sym, ap, ◌∙◌}
-use mathlib.Core.Logic.{⊎_elim}
-use mathlib.Core.List.{[]}
-use native.Mathlib.Omega.{arith}
-use borrow.Author.Rules.{rules}
-use lib.ListN.{length, take}
-use lib.Seq.{take-length}
+use Prim.Native.Nat.{◌≤◌, ◌-◌}
+use mathlib.Core.Path.{◌≡◌}
+use lib.ListN.{take}
 use Rattle.lists.specs.Lists.{keep}
 use Rattle.lists.specs.Tables.{entries_of, packed}
-use Rattle.lists.proofs.ListLaws.{length_keep}
-use Rattle.lists.proofs.TableLaws.{len_packed, turn_room, turn_yes, turn_no}
-use Rattle.records.specs.declared.shortcut.Shortcuts.{Shortcuts}
 use Rattle.records.specs.Shortcuts.{shortcuts, is_of_other_slot}
-use Rattle.records.proofs.ShortcutLaws.{few}
 use Rattle.records.proofs.shortcut.Shortcuts.without.Given as goal
 
 abbrev pub invariant-loop-i : goal.invariant-loop-i

@@ -1,5 +1,4 @@
 -- `SurfaceTable::refusal` meets its contract: the lookup's answer decides.
-use borrow.Author.Rules.{rules}
 use Rattle.records.proofs.surface.SurfaceTable.refusal.Goals as goal
 
 pub returns : goal.returns

@@ -1,5 +1,4 @@
 -- `Traces::new` meets its contract: the table of an empty list is all blanks.
-use borrow.Author.Rules.{rules}
 use Rattle.lists.specs.Tables.{packed}
 use Rattle.records.proofs.trace.Traces.new.Goals as goal
 

@@ -1,5 +1,4 @@
 -- `ViewRecord::new` meets its contract: each part is its own fresh value.
-use borrow.Author.Rules.{rules}
 use Rattle.records.proofs.view.ViewRecord.new.Goals as goal
 
 pub returns : goal.returns

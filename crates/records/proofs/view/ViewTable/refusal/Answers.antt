@@ -1,5 +1,4 @@
 -- `ViewTable::refusal` meets its contract: the lookup's answer decides.
-use borrow.Author.Rules.{rules}
 use Rattle.records.proofs.view.ViewTable.refusal.Goals as goal
 
 pub returns : goal.returns
