@@ -8,7 +8,6 @@ use Rattle.handles.specs.Slots.{slot_at, lookup_of}
 use Rattle.handles.specs.WellFormed.{well_formed}
 use Rattle.handles.specs.declared.GenerationalHandle.{GenerationalHandle}
 use Rattle.handles.specs.declared.arena.Arena.{Arena}
-use Rattle.handles.specs.declared.arena.Slot.{Slot}
 use Rattle.maps.specs.MapTables.{keys_rise}
 use Rattle.maps.specs.Captures.{captures, capture_key}
 use Rattle.records.specs.declared.error.CompositionError.TheVariants.{Damaged}

@@ -1,5 +1,5 @@
 -- The registry with one field changed, its revision, and what a refused call answers.
-use Rattle.std.specs.Prelude.{ℕ, ◌+◌, Bool, cond, not, eqb}
+use Rattle.std.specs.Prelude.{ℕ, ◌+◌, cond, not, eqb}
 use Rattle.lists.specs.Numbers.{max_u64}
 use Rattle.handles.specs.Slots.{lookup_of}
 use Rattle.handles.specs.declared.GenerationalHandle.{GenerationalHandle}
