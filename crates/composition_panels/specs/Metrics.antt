@@ -6,7 +6,7 @@ use Rattle.geometry.specs.Metrics.{is_valid_metrics, at_revision}
 use Rattle.geometry.specs.declared.metrics.ViewMetrics.{ViewMetrics}
 use Rattle.geometry.specs.declared.metrics.ViewMetricsUpdate.{ViewMetricsUpdate}
 use Rattle.handles.specs.declared.GenerationalHandle.{GenerationalHandle}
-use Rattle.records.specs.declared.error.CompositionError.TheVariants.{InvalidMetrics, RevisionConflict, RevisionExhausted}
+use Rattle.records.specs.declared.error.CompositionError.TheVariants.{InvalidMetrics, RevisionExhausted}
 use Rattle.records.specs.declared.error.Outcome.{Outcome}
 use Rattle.composition_state.specs.declared.registry.CompositionRegistry.{CompositionRegistry}
 use Rattle.composition_state.specs.declared.registry.Changed.{Changed}

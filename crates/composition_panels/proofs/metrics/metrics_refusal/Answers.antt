@@ -1,0 +1,18 @@
+-- `metrics_refusal` meets its contract: the checks are joined in their order.
+use Rattle.composition_panels.proofs.metrics.metrics_refusal.Goals as goal
+
+pub returns : goal.returns
+returns c =
+    rw (
+      c.then-4.ensures,
+      c.then-3.ensures,
+      c.then-2.ensures,
+      c.then.ensures,
+      c.damage.ensures,
+      c.refusal-live.ensures,
+      c.expect_revision-conflict.ensures,
+      c.refuse_if-exhausted.ensures,
+      c.refuse_if-invalid.ensures,
+      c.validate_view_metrics-valid.ensures,
+      c.record-record.ensures,
+    )

@@ -1,0 +1,15 @@
+-- `geometry_refusal` meets its contract: the checks are joined in their order.
+use Rattle.composition_panels.proofs.panels.geometry_refusal.Goals as goal
+
+pub returns : goal.returns
+returns c =
+    rw (
+      c.then-3.ensures,
+      c.then-2.ensures,
+      c.then.ensures,
+      c.damage.ensures,
+      c.expect_revision-conflict.ensures,
+      c.refuse_if-invalid.ensures,
+      c.validate_geometry-valid.ensures,
+      c.refusal-live.ensures,
+    )
