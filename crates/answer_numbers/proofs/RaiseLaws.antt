@@ -1,5 +1,5 @@
 -- An i32 moved up by 2^31 is a natural number that fits 64 bits.
-use Prim.Native.Nat.{suc, ◌+◌, ◌-◌, ◌<◌, ◌^◌}
+use Prim.Native.Nat.{suc, ◌<◌, ◌^◌}
 use mathlib.Core.Path.{◌≡◌, refl}
 use native.Mathlib.Omega.{arith}
 use lib.IntN.{ℤ, pos, negsuc, ◌+ℤ◌}

@@ -1,0 +1,12 @@
+-- `take_input_state` meets its contract: its parts are taken one after the other.
+use Rattle.answer_numbers.proofs.TakeLaws.{then, same_size}
+use Rattle.answer_numbers.proofs.groups.take_input_state.Goals as goal
+
+pub returns : goal.returns
+returns c =
+    then _ _ _ c.take_optional-a.ensures
+    (then _ _ _ c.take_optional-b.ensures
+    c.take_optional.ensures)
+
+pub shape_of-out : goal.shape_of-out
+shape_of-out c = same_size _ _ (returns c)

@@ -1,0 +1,12 @@
+-- `take_pointer` meets its contract: its parts are taken one after the other.
+use Rattle.answer_numbers.proofs.TakeLaws.{then, same_size}
+use Rattle.answer_numbers.proofs.groups.take_pointer.Goals as goal
+
+pub returns : goal.returns
+returns c =
+    then _ _ _ c.take_plain-a.ensures
+    (then _ _ _ c.take_u32-b.ensures
+    c.take_u32.ensures)
+
+pub shape_of-out : goal.shape_of-out
+shape_of-out c = same_size _ _ (returns c)
