@@ -17,7 +17,6 @@ use Rattle.records.specs.declared.shortcut.SlotShortcut.{SlotShortcut}
 use Rattle.records.specs.declared.surface.SurfaceTable.{SurfaceTable}
 use Rattle.records.specs.declared.view.ViewTable.{ViewTable}
 use Rattle.composition_shortcuts.specs.declared.candidate.Candidate.{Candidate}
-use Rattle.composition_shortcuts.specs.declared.candidate.OptionalCandidate.TheVariants.{None, Some}
 use Rattle.composition_shortcuts.specs.Greatest.{greatest}
 use Rattle.composition_shortcuts.specs.Scope.{owner_of, counts}
 use Rattle.composition_shortcuts.specs.Candidates.{candidate_of, is_less, optional}
