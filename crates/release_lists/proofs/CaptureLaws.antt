@@ -1,10 +1,10 @@
 -- A list of captures has 512 places, and a map's entries are put after it one by one.
 use Prim.Native.Nat.{ℕ, ◌+◌, ◌≤◌, ◌<◌}
-use mathlib.Core.Path.{◌≡◌, sym, ◌∙◌}
+use mathlib.Core.Path.{◌≡◌}
 use mathlib.Core.List.{List, ◌++◌, append_assoc}
 use native.Mathlib.Numerals.{add-one}
 use native.Mathlib.Omega.{arith}
-use lib.ListN.{length, take, get_or, length-append, length-map, length-take}
+use lib.ListN.{length, take, get_or, length-append, length-take}
 use lib.Seq.{take-suc}
 use mir.Val.{Val}
 use denote.Laws.{Is}

@@ -5,7 +5,7 @@ use mathlib.Core.Bool.{Bool, true, false, cond, not}
 use mathlib.Core.List.{List, [], ◌∷◌, ◌++◌, append_assoc, append-nil}
 use native.Mathlib.Numerals.{add-one}
 use native.Mathlib.Omega.{arith}
-use lib.ListN.{length, take, get_or, length-append, length-map, length-take}
+use lib.ListN.{length, take, get_or, length-append, length-take}
 use lib.Seq.{take-suc}
 use mir.Val.{Val}
 use denote.Laws.{Is}

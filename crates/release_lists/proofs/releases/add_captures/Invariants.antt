@@ -1,0 +1,14 @@
+-- `add_captures` meets its contract: after i turns the first i captures are added.
+use Prim.Native.Nat.{◌≤◌, ◌-◌}
+use mathlib.Core.Path.{◌≡◌}
+use lib.ListN.{length, take}
+use Rattle.lists.specs.Tables.{entries_of, packed}
+use Rattle.release_lists.specs.Captures.{capture_list}
+use Rattle.release_lists.specs.Releases.{releases, add_captures}
+use Rattle.release_lists.proofs.releases.add_captures.Given as goal
+
+abbrev pub invariant-loop-i : goal.invariant-loop-i
+invariant-loop-i l = (l.i ≤ l.n) × (l.n ≤ 512) × (l.next ≡ packed releases (add_captures (entries_of releases l.initial.next) (take l.i (entries_of capture_list l.list)))) × (length (entries_of releases l.initial.next) ≤ 128)
+
+abbrev pub decreases-loop-i : goal.decreases-loop-i
+decreases-loop-i l = l.n - l.i
