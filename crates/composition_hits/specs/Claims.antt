@@ -1,5 +1,5 @@
 -- What holds of every hit test. It answers no registry, so it alters none.
-use Rattle.std.specs.Prelude.{ℕ, ◌≡◌, Bool, List, ◌++◌, reverse, length, drop}
+use Rattle.std.specs.Prelude.{ℕ, ◌≡◌, List, ◌++◌, reverse, length, drop}
 use Rattle.lists.specs.Lists.{keep}
 use Rattle.geometry.specs.declared.transform.Point.{Point}
 use Rattle.handles.specs.declared.GenerationalHandle.{GenerationalHandle}

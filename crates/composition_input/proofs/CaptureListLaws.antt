@@ -1,6 +1,6 @@
 -- A list of captures gathered from maps of captures: each map is copied entry by entry after what the list holds, and each has at most 32.
 use Prim.Native.Nat.{ℕ, ◌+◌, ◌*◌, ◌≤◌}
-use mathlib.Core.Path.{◌≡◌, sym, ap, ◌∙◌}
+use mathlib.Core.Path.{◌≡◌, ◌∙◌}
 use mathlib.Core.List.{List, [], ◌++◌, foldl}
 use native.Mathlib.Omega.{arith}
 use borrow.Author.Tests.{ltb-true}

@@ -17,7 +17,6 @@ use Rattle.maps.specs.declared.captures.PointerCaptures.{PointerCaptures}
 use Rattle.release_lists.specs.Captures.{capture_list}
 use Rattle.records.specs.declared.error.CompositionError.TheVariants.{NotInteractive, PortLimit}
 use Rattle.records.specs.declared.error.Outcome.{Outcome}
-use Rattle.records.specs.declared.error.Outcome.TheVariants.{Accepted, Refused}
 use Rattle.composition_state.specs.declared.registry.CompositionRegistry.{CompositionRegistry}
 use Rattle.composition_state.specs.declared.registry.Changed.{Changed}
 use Rattle.records.specs.declared.view.ViewRecord.{ViewRecord}
