@@ -1,23 +1,17 @@
 -- An event that is no system shortcut resolves nothing: by cases, with the one kind that is left out by its tag.
 use Prim.Native.Nat.{ℕ}
 use mathlib.Core.Path.{◌≡◌, refl}
-use mathlib.Core.List.{List, [], ◌∷◌}
-use types.Run.{OneOf, miss}
-use denote.Enum.Declared as Declared
+use mathlib.Core.List.{List}
 use Rattle.handles.specs.declared.GenerationalHandle.{GenerationalHandle}
 use Rattle.records.specs.declared.shortcut.SlotShortcut.{SlotShortcut}
 use Rattle.records.specs.declared.surface.SurfaceTable.{SurfaceTable}
 use Rattle.records.specs.declared.view.ViewTable.{ViewTable}
 use Rattle.records.specs.declared.trace.ArbitrationEvent.{ArbitrationEvent}
 use Rattle.records.specs.declared.trace.ArbitrationEvent.TheVariants.{Pointer, PointerStack, PointerFor, PointerStackFor, Keyboard, KeyboardFor, Gamepad, GamepadFor, Text, Shortcut, SystemShortcut}
-use Rattle.records.specs.contracts.trace.ArbitrationEvent as Event
 use Rattle.composition_arbitration.specs.Arbitration.{unresolved, resolution_of}
 
-abbrev other_kinds : List ℕ
-other_kinds = 0 ∷ 1 ∷ 2 ∷ 3 ∷ 4 ∷ 5 ∷ 6 ∷ 7 ∷ 8 ∷ 9 ∷ []
-
 pub no_shortcut : (views : ViewTable) (surfaces : SurfaceTable) (l : List SlotShortcut) (view : GenerationalHandle) (e : ArbitrationEvent)
-    → OneOf other_kinds (Declared.tag_of Event.the_type e) → unresolved ≡ resolution_of views surfaces l view e
+    → ((m : ℕ) → e ≡ SystemShortcut m → ⊥) → unresolved ≡ resolution_of views surfaces l view e
 unfolding resolution_of
 no_shortcut views surfaces l view (Pointer m) h = refl
 no_shortcut views surfaces l view PointerStack h = refl
@@ -29,4 +23,4 @@ no_shortcut views surfaces l view Gamepad h = refl
 no_shortcut views surfaces l view (GamepadFor m) h = refl
 no_shortcut views surfaces l view Text h = refl
 no_shortcut views surfaces l view Shortcut h = refl
-no_shortcut views surfaces l view (SystemShortcut m) h = absurd (miss other_kinds 10 tt h)
+no_shortcut views surfaces l view (SystemShortcut m) h = absurd (h m refl)

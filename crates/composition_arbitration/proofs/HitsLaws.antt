@@ -1,10 +1,10 @@
 -- A stored table of hits has 16 places, read off what its type owns; and a search among them, place by place.
 use Prim.Native.Nat.{ℕ, ◌+◌, ◌≤◌, ◌<◌}
-use mathlib.Core.Path.{◌≡◌, sym, ◌∙◌}
+use mathlib.Core.Path.{◌≡◌, ◌∙◌}
 use mathlib.Core.Bool.{true, false}
 use mathlib.Core.List.{List}
 use native.Mathlib.Numerals.{add-one}
-use lib.ListN.{length, drop, get_or, length-map}
+use lib.ListN.{length, drop, get_or}
 use lib.Seq.{drop-cons, drop-length}
 use mir.Val.{Val}
 use denote.Laws.{Is}

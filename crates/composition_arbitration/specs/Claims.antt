@@ -1,5 +1,5 @@
 -- What the rules (RULES.md, Layers, Targets) say of every arbitration, beyond the definitions.
-use Rattle.std.specs.Prelude.{ℕ, ◌+◌, ◌≡◌, Bool, true, false}
+use Rattle.std.specs.Prelude.{ℕ, ◌+◌, ◌≡◌, true, false}
 use mathlib.Core.List.{List, [], ◌∷◌, ◌++◌, map, reverse, Memᴰ}
 use Rattle.lists.specs.Lists.{keep}
 use Rattle.lists.specs.Maps.{rising}

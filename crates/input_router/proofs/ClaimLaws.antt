@@ -1,6 +1,6 @@
 -- The claims about the router: soundness by its parts, releases by what a test keeps, and the release of all by the laws of panel order.
 use Prim.Native.Nat.{ℕ, ◌≤◌, ◌<◌}
-use mathlib.Core.Path.{◌≡◌, refl, sym, ap, ◌∙◌}
+use mathlib.Core.Path.{◌≡◌, refl, sym, ap, ◌∙◌, subst}
 use mathlib.Core.Bool.{Bool, true, false, cond, not, ◌||◌}
 use mathlib.Core.List.{List, [], ◌∷◌}
 use mathlib.Core.Option.{Option, none, some}
@@ -191,7 +191,8 @@ first_kind t (e ∷ l) stop s q = by_test (is_closed t e)
     (λ c.
     let is : some e ≡ some stop = rw c at q in
     let same : e ≡ stop = cc in
-    rw (sym same) (and_both (ap (λ (b : Bool). not b || not (is_closed t e)) (irreflexive (kind_of e))) (over_kinds t e l s.0)))
+    subst (λ (x : Binding). all (λ f. not (ltb (kind_of f) (kind_of x)) || not (is_closed t f)) (e ∷ l) ≡ true) same
+    (and_both (ap (λ (b : Bool). not b || not (is_closed t e)) (irreflexive (kind_of e))) (over_kinds t e l s.0)))
     (λ c. and_both (ap (λ (b : Bool). not (ltb (kind_of e) (kind_of stop)) || not b) c ∙ or_true (not (ltb (kind_of e) (kind_of stop)))) (first_kind t l stop s.1 (rw c at q)))
   where
     irreflexive : (n : ℕ) → ltb n n ≡ false

@@ -1,5 +1,5 @@
 -- A device is accepted among the known ones exactly if it has a place; and what its insertion then answers.
-use mathlib.Core.Path.{◌≡◌, refl, sym, ap, ◌∙◌}
+use mathlib.Core.Path.{◌≡◌, refl, ap, ◌∙◌}
 use mathlib.Core.Bool.{Bool, true, ◌||◌}
 use mathlib.Core.Option.{Option, none, some}
 use lib.Dec.{ltb}

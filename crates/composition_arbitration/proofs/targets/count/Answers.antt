@@ -1,0 +1,11 @@
+-- `count` meets its contract: the stored count, cut at the number of places.
+use Rattle.lists.proofs.TableLaws.{count_below_lem, count_above}
+use Rattle.records.specs.Traces.{hits}
+use Rattle.composition_arbitration.proofs.HitsLaws.{long}
+use Rattle.composition_arbitration.proofs.targets.count.Goals as goal
+
+pub returns-then-n-lt16 : goal.returns-then-n-lt16
+returns-then-n-lt16 c = count_below_lem hits c.args.hits (long c.args.hits c.well_formed.0) c.if-n-lt16.true
+
+pub returns : goal.returns
+returns c = count_above hits c.args.hits (long c.args.hits c.well_formed.0) c.if-n-lt16.false
