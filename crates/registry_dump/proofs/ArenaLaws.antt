@@ -4,7 +4,7 @@ use mathlib.Core.Bool.{true, false, cond}
 use mathlib.Core.List.{List, [], ◌++◌}
 use mathlib.Core.Path.{◌≡◌, sym, ap, ◌∙◌}
 use native.Mathlib.Omega.{arith}
-use lib.ListN.{length, get_or, length-map, length-take}
+use lib.ListN.{length, get_or, length-take}
 use lib.Seq.{get_or-take}
 use mir.Val.{Val}
 use denote.Laws.{Is}

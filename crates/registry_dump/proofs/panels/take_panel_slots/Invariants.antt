@@ -1,0 +1,16 @@
+-- `take_panel_slots` meets its contract: after i turns the numbers of the first i slots are taken.
+use Prim.Native.Nat.{◌≤◌, ◌-◌}
+use lib.ListN.{get_or}
+use Rattle.handles.specs.Slots.{no_slot}
+use Rattle.records.specs.Surfaces.{no_surface}
+use Rattle.answer_numbers.specs.Numbers.{indices}
+use Rattle.answer_numbers.proofs.EachLaws.{Taken}
+use Rattle.registry_dump.specs.Arenas.{slot_numbers}
+use Rattle.registry_dump.specs.Panels.{panel_numbers}
+use Rattle.registry_dump.proofs.panels.take_panel_slots.Given as goal
+
+abbrev pub invariant-loop-i : goal.invariant-loop-i
+invariant-loop-i l = (l.i ≤ l.n) × Taken (λ j. slot_numbers (panel_numbers j (get_or l.records j no_surface) l.shortcuts) (get_or l.slots j no_slot)) (indices l.n) (l.initial.out, l.initial.next) l.i (l.out, l.next)
+
+abbrev pub decreases-loop-i : goal.decreases-loop-i
+decreases-loop-i l = l.n - l.i

@@ -1,0 +1,13 @@
+-- `take_registry` meets its contract: its parts are taken one after the other.
+use Rattle.answer_numbers.proofs.TakeLaws.{then, same_size}
+use Rattle.registry_dump.proofs.registry.take_registry.Goals as goal
+
+pub returns : goal.returns
+returns c =
+    then _ _ _ c.take_owner-a.ensures
+    (then _ _ _ c.take_head-b.ensures
+    (then _ _ _ c.take_tables-c.ensures
+    c.take_traces.ensures))
+
+pub shape_of-out : goal.shape_of-out
+shape_of-out c = same_size _ _ (returns c)

@@ -1,0 +1,34 @@
+-- `take_deliveries` meets its contract: after i turns the numbers of the first i entries are taken.
+use Prim.Native.Nat.{◌<◌}
+use mathlib.Core.Path.{sym}
+use native.Mathlib.Omega.{arith}
+use lib.ListN.{length}
+use Rattle.lists.specs.Tables.{entries_of}
+use Rattle.records.specs.Traces.{deliveries}
+use Rattle.answer_numbers.proofs.EachLaws.{none_taken, entry_taken, all_taken}
+use Rattle.answer_numbers.proofs.TakeLaws.{then, same_size}
+use Rattle.registry_dump.specs.Traces.{delivery_numbers}
+use Rattle.registry_dump.proofs.TraceListLaws.{deliveries_few}
+use Rattle.registry_dump.proofs.traces.take_deliveries.Goals as goal
+
+pub loop-i-init : goal.loop-i-init
+loop-i-init c =
+    let a = c.args in
+    let start = c.take_count-next in
+    (omega arith, omega (arith, deliveries_few a.deliveries c.well_formed.1.1.0), none_taken delivery_numbers (entries_of deliveries a.deliveries) (start.new.out, start.result))
+
+pub loop-i-preserved : goal.loop-i-preserved
+loop-i-preserved c =
+    let a = c.args in
+    let l = c.loop-i in
+    let within : l.i < length (entries_of deliveries a.deliveries) = omega arith in
+    (omega arith, omega arith, entry_taken deliveries delivery_numbers a.deliveries _ l.i _ within l.invariant.2 c.take_delivery-next.ensures)
+
+pub returns : goal.returns
+returns c =
+    let a = c.args in
+    let l = c.loop-i in
+    rw (sym c.count_deliveries-n.ensures) (then _ _ _ c.take_count-next.ensures (all_taken delivery_numbers (entries_of deliveries a.deliveries) _ l.i (omega arith) l.invariant.2))
+
+pub shape_of-out : goal.shape_of-out
+shape_of-out c = same_size _ _ (returns c)

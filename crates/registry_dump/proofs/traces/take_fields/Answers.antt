@@ -1,0 +1,13 @@
+-- `take_fields` meets its contract: its parts are taken one after the other.
+use Rattle.answer_numbers.proofs.TakeLaws.{then, same_size}
+use Rattle.registry_dump.proofs.traces.take_fields.Goals as goal
+
+pub returns : goal.returns
+returns c =
+    then _ _ _ c.take_plain-a.ensures
+    (then _ _ _ c.take_pointer-b.ensures
+    (then _ _ _ c.take_optional-c.ensures
+    c.take_plain.ensures))
+
+pub shape_of-out : goal.shape_of-out
+shape_of-out c = same_size _ _ (returns c)

@@ -1,0 +1,11 @@
+-- `take_views` meets its contract: its parts are taken one after the other.
+use Rattle.answer_numbers.proofs.TakeLaws.{then, same_size}
+use Rattle.registry_dump.proofs.views.take_views.Goals as goal
+
+pub returns : goal.returns
+returns c =
+    then _ _ _ c.take_view_slots-next.ensures
+    c.take_arena_end.ensures
+
+pub shape_of-out : goal.shape_of-out
+shape_of-out c = same_size _ _ (returns c)
