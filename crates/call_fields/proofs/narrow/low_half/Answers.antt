@@ -1,0 +1,12 @@
+-- `low_half` meets its contract, by its one test.
+use borrow.Author.Tests.{le-ltb, lt-ltb}
+use Rattle.call_fields.specs.Narrow.{within}
+use Rattle.call_fields.proofs.narrow.low_half.Goals as goal
+
+pub returns-then-n-lt4294967296 : goal.returns-then-n-lt4294967296
+unfolding within
+returns-then-n-lt4294967296 c = rw (lt-ltb _ _ c.if-n-lt4294967296.true)
+
+pub returns : goal.returns
+unfolding within
+returns c = rw (le-ltb _ _ c.if-n-lt4294967296.false)
