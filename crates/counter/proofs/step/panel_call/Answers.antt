@@ -1,0 +1,5 @@
+-- `panel_call` meets its contract: the call, with the parts of its answer.
+use Rattle.counter.proofs.step.panel_call.Goals as goal
+
+pub returns : goal.returns
+returns c = rw (c.from_registry.ensures, c.panel_step.ensures)
