@@ -1,11 +1,10 @@
 -- RULES.md, Presses and Book: what a call with its answer changes in the book.
-use Rattle.std.specs.Prelude.{Bool, true, false, not, cond, List, []}
+use Rattle.std.specs.Prelude.{Bool, true, false, not, cond, List}
 use Rattle.std.proofs.Math.Option.{Option, none, some}
 use Rattle.lists.specs.Lists.{first}
 use Rattle.handles.specs.declared.GenerationalHandle.{GenerationalHandle}
 use Rattle.handles.specs.declared.OptionalHandle.{OptionalHandle}
 use Rattle.handles.specs.declared.OptionalHandle.TheVariants as handle
-use Rattle.maps.specs.declared.bindings.Binding.{Binding}
 use Rattle.maps.specs.declared.keys.BindingKey.{BindingKey}
 use Rattle.maps.specs.declared.keys.BindingKey.TheVariants as press
 use Rattle.maps.specs.declared.keys.CompositionPointerId.{CompositionPointerId}
