@@ -1,11 +1,10 @@
 -- The claims hold: the test as facts of its parts, the call on the facts, and the facts as the test again; and no check
 -- of a call but that of damage answers 42.
 use Prim.Native.Nat.{ℕ}
-use mathlib.Core.Path.{◌≡◌, ap}
+use mathlib.Core.Path.{ap}
 use lib.Dec.{eqb}
 use Rattle.lists.proofs.ListLaws.{clash}
 use Rattle.records.specs.declared.error.Outcome.{Outcome}
-use Rattle.records.specs.Errors.{number_of}
 use Rattle.composition_state.specs.declared.registry.CompositionRegistry.{CompositionRegistry}
 use Rattle.composition_input.specs.Captures.{primary}
 use Rattle.composition_shortcuts.specs.declared.register.Registrations.{Registrations}
@@ -17,7 +16,7 @@ use Rattle.calls.specs.declared.call.InputCall.TheVariants as input
 use Rattle.calls.specs.declared.call.ShortcutCall.{ShortcutCall}
 use Rattle.calls.specs.declared.call.ShortcutCall.TheVariants as shortcut
 use Rattle.registry_step.specs.Steps.{panel_step, input_step, shortcut_step}
-use Rattle.composition_soundness.specs.Claims.{Undamaged, Kept, SoundnessClaims}
+use Rattle.composition_soundness.specs.Claims.{Kept, SoundnessClaims}
 use Rattle.composition_soundness.proofs.PartLaws.{Parts, parts, undamaged}
 use Rattle.composition_soundness.proofs.InputLaws as inputs
 use Rattle.composition_soundness.proofs.PanelLaws as panels

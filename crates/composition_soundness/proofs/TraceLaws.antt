@@ -1,12 +1,12 @@
 -- An arbitration adds one trace: its hits are counted by the check of 41, its deliveries are at most the panels walked, and the oldest trace drops out.
-use Prim.Native.Nat.{ℕ, ◌+◌, ◌-◌, ◌≤◌}
+use Prim.Native.Nat.{ℕ, ◌-◌, ◌≤◌}
 use mathlib.Core.Path.{◌≡◌, refl, sym, ap, ◌∙◌, subst}
 use mathlib.Core.Bool.{true}
 use mathlib.Core.List.{List, [], ◌∷◌, ◌++◌, reverse}
 use native.Mathlib.Omega.{arith}
 use borrow.Author.Tests.{le-leb, ltb-false, ne_eqb}
 use lib.Dec.{leb, ltb}
-use lib.ListN.{length, drop, length-append, length-drop, length-map, length-reverse}
+use lib.ListN.{length, length-drop, length-map, length-reverse}
 use Rattle.lists.specs.Lists.{keep, all}
 use Rattle.lists.specs.Tables.{entries_of}
 use Rattle.lists.proofs.ListLaws.{by_test, and_right, and_both, all_append, length_keep}

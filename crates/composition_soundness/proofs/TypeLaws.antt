@@ -1,7 +1,5 @@
 -- The arrays of a registry have the length of their types: read off what its type and the types of its parts own.
-use mathlib.Core.Path.{sym, ◌∙◌}
 use mathlib.Core.List.{List}
-use lib.ListN.{length-map}
 use mir.Val.{Val}
 use denote.Laws.{Is}
 use denote.Struct.Laws as LL

@@ -14,30 +14,27 @@ use Rattle.composition_panels.specs.Windows.{create_window, is_window_in_use, cl
 use Rattle.composition_close.specs.Close.{detached, freed, close_settled, close_surface}
 use Rattle.composition_close.specs.Detach.{had_capture, topmost, detached_view, close_report}
 use Rattle.shutdown_steps.specs.Steps.{panel_step, panel_steps, view_found, view_left, view_step, view_steps, window_step, window_steps, views_done, shutdown_steps}
-use Rattle.shutdown_steps.proofs.shutdown_example.Statement.{statement}
-use Rattle.shutdown_steps.proofs.shutdown_example.Tie as tie
+use Rattle.shutdown_steps.proofs.shutdown_example.Goals as goal
 
-returns : tie.Need-returns
+pub returns : goal.returns
 unfolding all_below count_below iter_below entries_of packed pushed empty_arena lookup_of has_room allocated released none_exhausted handles_below counts_within occurrences_of well_formed is_valid_geometry layer_lt records_of arenas_sound traces_sound layers_sound view_sound views_sound is_sound advanced fresh_registry attached attach_surface create_window is_window_in_use close_window create_view close_view detached freed close_settled close_surface had_capture topmost detached_view close_report panel_step panel_steps view_found view_left view_step view_steps window_step window_steps views_done shutdown_steps
-returns c = record {
-  undamaged = record {
-    whole = record {
-      windows = record { slots = refl; free = refl };
-      views = record { slots = refl; free = refl };
-      surfaces = record { slots = refl; free = refl };
-      view_records = refl;
-      surface_records = refl;
-    };
-    sound = refl;
-  };
-  passes = refl;
-  accepted = refl;
-  panels = refl;
-  revisions = refl;
-  views = refl;
-  windows = refl;
-  last = refl;
-}
-
-pub shutdown_example_spec : {M : Type 1} → statement M
-shutdown_example_spec = tie.close (tie.spec returns)
+returns c =
+    record {
+      undamaged = record {
+        whole = record {
+          windows = record { slots = refl; free = refl };
+          views = record { slots = refl; free = refl };
+          surfaces = record { slots = refl; free = refl };
+          view_records = refl;
+          surface_records = refl;
+        };
+        sound = refl;
+      };
+      passes = refl;
+      accepted = refl;
+      panels = refl;
+      revisions = refl;
+      views = refl;
+      windows = refl;
+      last = refl;
+    }
