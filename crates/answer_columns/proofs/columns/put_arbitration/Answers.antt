@@ -1,7 +1,6 @@
 -- `put_arbitration` meets its contract: consumer, space and deliveries are put one after the other.
 use Prim.Native.Nat.{ℕ}
 use mathlib.Core.List.{List, ◌++◌}
-use borrow.Author.Rules.{rules}
 use Rattle.lists.specs.Tables.{entries_of}
 use Rattle.records.specs.Traces.{deliveries}
 use Rattle.answer_columns.specs.Pieces.{space_pieces, optional_pieces, list_pieces}

@@ -1,7 +1,6 @@
 -- `put_columns` meets its contract: the columns are put one after the other.
 use Prim.Native.Nat.{ℕ}
 use mathlib.Core.List.{List, ◌++◌}
-use borrow.Author.Rules.{rules}
 use Rattle.input_events.specs.RouterErrors.{router_number_of}
 use Rattle.answer_columns.specs.Pieces.{space_pieces}
 use Rattle.answer_columns.specs.Columns.{number_pieces, arbitration_pieces, releases_column, column_pieces}

@@ -1,6 +1,5 @@
 -- `put_numbers` meets its contract: three cells are put one after the other.
 use mathlib.Core.Path.{ap, ◌∙◌}
-use borrow.Author.Rules.{rules}
 use Rattle.answer_columns.specs.Pieces.{put_all, cell_pieces}
 use Rattle.answer_columns.proofs.columns.put_numbers.Goals as goal
 

@@ -1,17 +1,12 @@
 -- `put_deliveries` meets its contract: after i turns the first i deliveries are put.
-use Prim.Native.Nat.{ℕ, ◌≤◌, ◌<◌, ◌-◌}
+use Prim.Native.Nat.{ℕ, ◌≤◌, ◌-◌}
 use mathlib.Core.List.{List}
-use mathlib.Core.Path.{◌≡◌, refl, sym, ◌∙◌}
-use native.Mathlib.Omega.{arith}
+use mathlib.Core.Path.{◌≡◌}
 use lib.ListN.{length, take}
-use lib.Seq.{take-length}
-use borrow.Author.Rules.{rules}
 use Rattle.lists.specs.Tables.{entries_of}
 use Rattle.records.specs.Traces.{deliveries}
-use Rattle.input_events.proofs.DeliveryLaws.{few}
 use Rattle.answer_columns.specs.Pieces.{put_all, entry_pieces}
 use Rattle.answer_columns.specs.Columns.{delivery_pieces}
-use Rattle.answer_columns.proofs.PieceLaws.{some_listed, none_listed, start, turn}
 use Rattle.answer_columns.proofs.delivered.put_deliveries.Given as goal
 
 abbrev pub invariant-loop-i : goal.invariant-loop-i

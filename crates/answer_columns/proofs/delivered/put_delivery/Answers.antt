@@ -1,7 +1,6 @@
 -- `put_delivery` meets its contract: the test of the observed is the definition's.
 use mathlib.Core.List.{[], ◌∷◌}
 use mathlib.Core.Path.{ap, ◌∙◌}
-use borrow.Author.Rules.{rules}
 use Rattle.answer_text.specs.Put.{put}
 use Rattle.answer_columns.proofs.delivered.put_delivery.Goals as goal
 

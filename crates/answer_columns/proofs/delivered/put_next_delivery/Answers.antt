@@ -1,5 +1,4 @@
 -- `put_next_delivery` meets its contract: the comma and the delivery are put one after the other.
-use borrow.Author.Rules.{rules}
 use Rattle.answer_columns.specs.Pieces.{comma_pieces}
 use Rattle.answer_columns.specs.Columns.{delivery_pieces}
 use Rattle.answer_columns.proofs.PieceLaws.{chain}

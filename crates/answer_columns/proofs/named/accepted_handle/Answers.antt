@@ -1,5 +1,4 @@
 -- `accepted_handle` meets its contract: each case is the definition's.
-use borrow.Author.Rules.{rules}
 use Rattle.answer_columns.proofs.named.accepted_handle.Goals as goal
 
 pub returns-in-Panel : goal.returns-in-Panel

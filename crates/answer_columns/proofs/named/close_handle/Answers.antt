@@ -1,5 +1,4 @@
 -- `close_handle` meets its contract: each case is the definition's.
-use borrow.Author.Rules.{rules}
 use Rattle.answer_columns.proofs.named.close_handle.Goals as goal
 
 pub returns-in-CloseSurface : goal.returns-in-CloseSurface

@@ -1,5 +1,4 @@
 -- `input_handle` meets its contract: each case is the definition's.
-use borrow.Author.Rules.{rules}
 use Rattle.answer_columns.proofs.named.input_handle.Goals as goal
 
 pub returns-in-SetFocus : goal.returns-in-SetFocus

@@ -1,5 +1,4 @@
 -- `lost_view` meets its contract: each case is the definition's.
-use borrow.Author.Rules.{rules}
 use Rattle.answer_columns.proofs.named.lost_view.Goals as goal
 
 pub returns-in-Nothing : goal.returns-in-Nothing

@@ -1,5 +1,4 @@
 -- `named_handle` meets its contract: each case is the definition's.
-use borrow.Author.Rules.{rules}
 use Rattle.answer_columns.proofs.named.named_handle.Goals as goal
 
 pub returns-in-Accepted : goal.returns-in-Accepted

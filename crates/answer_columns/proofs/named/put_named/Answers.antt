@@ -1,6 +1,5 @@
 -- `put_named` meets its contract: space, handle and space are put one after the other.
 use mathlib.Core.List.{◌++◌}
-use borrow.Author.Rules.{rules}
 use Rattle.answer_columns.specs.Pieces.{space_pieces, optional_pieces}
 use Rattle.answer_columns.proofs.PieceLaws.{chain}
 use Rattle.answer_columns.proofs.named.put_named.Goals as goal

@@ -1,5 +1,4 @@
 -- `router_handle` meets its contract: each case is the definition's.
-use borrow.Author.Rules.{rules}
 use Rattle.answer_columns.proofs.named.router_handle.Goals as goal
 
 pub returns-in-Route : goal.returns-in-Route

@@ -1,5 +1,4 @@
 -- `shown_handle` meets its contract: each case is the definition's.
-use borrow.Author.Rules.{rules}
 use Rattle.answer_columns.proofs.named.shown_handle.Goals as goal
 
 pub returns-in-Nothing : goal.returns-in-Nothing

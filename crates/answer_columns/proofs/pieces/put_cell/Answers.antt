@@ -1,6 +1,5 @@
 -- `put_cell` meets its contract: the number and the space are put one after the other.
 use mathlib.Core.Path.{ap, ◌∙◌}
-use borrow.Author.Rules.{rules}
 use Rattle.answer_columns.specs.Pieces.{put_all, space_pieces}
 use Rattle.answer_columns.proofs.pieces.put_cell.Goals as goal
 

@@ -1,6 +1,5 @@
 -- `put_comma` meets its contract: the test of the index is the definition's.
 use borrow.Author.Tests.{eq-eqb, ne_eqb}
-use borrow.Author.Rules.{rules}
 use Rattle.answer_columns.proofs.pieces.put_comma.Goals as goal
 
 pub returns-then-i-eq0 : goal.returns-then-i-eq0

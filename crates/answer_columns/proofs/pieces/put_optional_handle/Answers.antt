@@ -1,5 +1,4 @@
 -- `put_optional_handle` meets its contract: each case is the definition's.
-use borrow.Author.Rules.{rules}
 use Rattle.answer_columns.proofs.pieces.put_optional_handle.Goals as goal
 
 pub returns-in-None : goal.returns-in-None

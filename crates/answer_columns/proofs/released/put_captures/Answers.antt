@@ -1,15 +1,13 @@
 -- `put_captures` meets its contract: after i turns the first i captures are put.
-use Prim.Native.Nat.{ℕ, ◌≤◌, ◌<◌, ◌-◌}
-use mathlib.Core.List.{List}
+use Prim.Native.Nat.{◌<◌}
 use mathlib.Core.Path.{◌≡◌, refl, ◌∙◌}
 use native.Mathlib.Omega.{arith}
-use lib.ListN.{length, take}
+use lib.ListN.{length}
 use lib.Seq.{take-length}
 use borrow.Author.Rules.{rules}
 use Rattle.lists.specs.Tables.{entries_of}
 use Rattle.release_lists.specs.Captures.{capture_list}
 use Rattle.release_lists.proofs.CaptureLaws.{few_captures}
-use Rattle.answer_columns.specs.Pieces.{put_all, entry_pieces}
 use Rattle.answer_columns.specs.Columns.{capture_pieces}
 use Rattle.answer_columns.proofs.PieceLaws.{start, turn}
 use Rattle.answer_columns.proofs.released.put_captures.Goals as goal

@@ -1,6 +1,5 @@
 -- `put_key` meets its contract: each kind is its letter and its numbers.
 use mathlib.Core.Path.{ap, ◌∙◌}
-use borrow.Author.Rules.{rules}
 use Rattle.answer_columns.specs.Pieces.{put_all, pair_pieces, triple_pieces}
 use Rattle.answer_columns.proofs.released.put_key.Goals as goal
 

@@ -1,15 +1,13 @@
 -- `put_listed` meets its contract: after i turns the first i releases are put.
-use Prim.Native.Nat.{ℕ, ◌≤◌, ◌<◌, ◌-◌}
-use mathlib.Core.List.{List}
+use Prim.Native.Nat.{◌<◌}
 use mathlib.Core.Path.{◌≡◌, refl, sym, ◌∙◌}
 use native.Mathlib.Omega.{arith}
-use lib.ListN.{length, take}
+use lib.ListN.{length}
 use lib.Seq.{take-length}
 use borrow.Author.Rules.{rules}
 use Rattle.lists.specs.Tables.{entries_of}
 use Rattle.release_lists.specs.Releases.{releases}
 use Rattle.release_lists.proofs.ReleaseLaws.{few}
-use Rattle.answer_columns.specs.Pieces.{put_all, entry_pieces}
 use Rattle.answer_columns.specs.Columns.{release_pieces}
 use Rattle.answer_columns.proofs.PieceLaws.{some_listed, none_listed, start, turn}
 use Rattle.answer_columns.proofs.released.put_listed.Goals as goal

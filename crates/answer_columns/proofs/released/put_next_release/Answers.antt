@@ -1,5 +1,4 @@
 -- `put_next_release` meets its contract: the comma and the release are put one after the other.
-use borrow.Author.Rules.{rules}
 use Rattle.answer_columns.specs.Pieces.{comma_pieces}
 use Rattle.answer_columns.specs.Columns.{release_pieces}
 use Rattle.answer_columns.proofs.PieceLaws.{chain}

@@ -1,7 +1,6 @@
 -- `put_release` meets its contract: key, `@` and panel are put one after the other.
 use mathlib.Core.List.{[], ◌∷◌}
 use mathlib.Core.Path.{ap, ◌∙◌}
-use borrow.Author.Rules.{rules}
 use Rattle.answer_columns.specs.Pieces.{put_all, handle_pieces}
 use Rattle.answer_columns.specs.Columns.{key_pieces}
 use Rattle.answer_columns.proofs.PieceLaws.{chain}

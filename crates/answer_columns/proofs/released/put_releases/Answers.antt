@@ -1,7 +1,6 @@
 -- `put_releases` meets its contract: the test of the captures is the definition's.
 use mathlib.Core.Path.{sym, ◌∙◌}
 use native.Mathlib.Omega.{arith}
-use borrow.Author.Rules.{rules}
 use borrow.Author.Tests.{eq-eqb, ne_eqb}
 use Rattle.lists.specs.Tables.{entries_of}
 use Rattle.release_lists.specs.Captures.{capture_list}

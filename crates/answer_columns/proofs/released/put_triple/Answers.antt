@@ -1,7 +1,6 @@
 -- `put_triple` meets its contract: a pair, a dot and a number are put one after the other.
 use mathlib.Core.List.{[], ◌∷◌}
 use mathlib.Core.Path.{ap, ◌∙◌}
-use borrow.Author.Rules.{rules}
 use Rattle.answer_text.specs.Decimal.{decimal}
 use Rattle.answer_text.specs.Put.{put}
 use Rattle.answer_columns.proofs.released.put_triple.Goals as goal

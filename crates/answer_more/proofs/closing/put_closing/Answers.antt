@@ -1,5 +1,4 @@
 -- `put_closing` meets its contract: each call takes its own numbers.
-use borrow.Author.Rules.{rules}
 use Rattle.answer_more.proofs.PlaceLaws.{ended}
 use Rattle.answer_more.proofs.closing.put_closing.Goals as goal
 

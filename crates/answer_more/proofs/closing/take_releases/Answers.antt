@@ -1,12 +1,11 @@
 -- `take_releases` meets its contract: after i turns the numbers of the first i entries are taken.
-use Prim.Native.Nat.{◌≤◌, ◌<◌, ◌-◌}
+use Prim.Native.Nat.{◌<◌}
 use mathlib.Core.Path.{sym}
 use native.Mathlib.Omega.{arith}
 use lib.ListN.{length}
-use borrow.Author.Rules.{rules}
 use Rattle.lists.specs.Tables.{entries_of}
 use Rattle.composition_close.specs.Reports.{releases}
-use Rattle.answer_numbers.proofs.EachLaws.{Taken, none_taken, entry_taken, all_taken}
+use Rattle.answer_numbers.proofs.EachLaws.{none_taken, entry_taken, all_taken}
 use Rattle.answer_numbers.proofs.TakeLaws.{then, same_size}
 use Rattle.answer_more.specs.Closing.{released_numbers}
 use Rattle.answer_more.proofs.ReportListLaws.{releases_few}

@@ -1,5 +1,4 @@
 -- `take_report` meets its contract: its groups are taken one after the other.
-use borrow.Author.Rules.{rules}
 use Rattle.answer_numbers.proofs.TakeLaws.{then, same_size}
 use Rattle.answer_more.proofs.closing.take_report.Goals as goal
 

@@ -1,15 +1,9 @@
 -- `take_reports` meets its contract: after i turns the numbers of the first i entries are taken.
-use Prim.Native.Nat.{◌≤◌, ◌<◌, ◌-◌}
-use mathlib.Core.Path.{sym}
-use native.Mathlib.Omega.{arith}
-use lib.ListN.{length}
-use borrow.Author.Rules.{rules}
+use Prim.Native.Nat.{◌≤◌, ◌-◌}
 use Rattle.lists.specs.Tables.{entries_of}
 use Rattle.composition_close.specs.Reports.{close_reports}
-use Rattle.answer_numbers.proofs.EachLaws.{Taken, none_taken, entry_taken, all_taken}
-use Rattle.answer_numbers.proofs.TakeLaws.{then, same_size}
+use Rattle.answer_numbers.proofs.EachLaws.{Taken}
 use Rattle.answer_more.specs.Closing.{report_numbers}
-use Rattle.answer_more.proofs.ReportListLaws.{reports_few}
 use Rattle.answer_more.proofs.closing.take_reports.Given as goal
 
 abbrev pub invariant-loop-i : goal.invariant-loop-i

@@ -1,5 +1,4 @@
 -- `take_hits_at` meets its contract: the hits are those of the view at the point.
-use borrow.Author.Rules.{rules}
 use Rattle.lists.proofs.TableLaws.{entries_packed}
 use Rattle.records.specs.Traces.{hits}
 use Rattle.answer_more.proofs.hits.take_hits_at.Goals as goal

@@ -1,5 +1,4 @@
 -- `take_local` meets its contract: each case takes its own numbers.
-use borrow.Author.Rules.{rules}
 use Rattle.answer_numbers.proofs.TakeLaws.{then}
 use Rattle.answer_more.proofs.hits.take_local.Goals as goal
 

@@ -1,5 +1,4 @@
 -- `take_point` meets its contract: its groups are taken one after the other.
-use borrow.Author.Rules.{rules}
 use Rattle.answer_numbers.proofs.TakeLaws.{then, stored, same_size}
 use Rattle.answer_more.proofs.hits.take_point.Goals as goal
 

@@ -1,5 +1,4 @@
 -- `take_shown_counts` meets its contract: its groups are taken one after the other.
-use borrow.Author.Rules.{rules}
 use Rattle.answer_numbers.proofs.TakeLaws.{then, same_size}
 use Rattle.answer_more.proofs.hits.take_shown_counts.Goals as goal
 

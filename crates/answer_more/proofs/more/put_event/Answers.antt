@@ -1,5 +1,4 @@
 -- `put_event` meets its contract: each kind takes its own numbers.
-use borrow.Author.Rules.{rules}
 use Rattle.answer_more.proofs.PlaceLaws.{ended}
 use Rattle.answer_more.proofs.more.put_event.Goals as goal
 

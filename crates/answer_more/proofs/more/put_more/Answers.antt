@@ -1,7 +1,6 @@
 -- `put_more` meets its contract: a refused call shows nothing, a close and a routed event their own, and any other call
 -- what its answer has to show.
 use mathlib.Core.Path.{sym}
-use borrow.Author.Rules.{rules}
 use Rattle.answer_more.specs.More.{more_of}
 use Rattle.answer_more.proofs.ShownLaws.{own_shown}
 use Rattle.answer_more.proofs.more.put_more.Goals as goal
@@ -22,4 +21,4 @@ pub returns-in_default : goal.returns-in_default
 unfolding more_of
 returns-in_default c =
     let a = c.args in
-    rw (sym c.is_accepted.ensures, c.if-is_accepted.true, own_shown a.call a.answer a.counter c.in_default.in_default-own.keys3) c.put_shown.ensures
+    rw (sym c.is_accepted.ensures, c.if-is_accepted.true, own_shown a.call a.answer a.counter c.in_default.not-Close c.in_default.not-Router) c.put_shown.ensures

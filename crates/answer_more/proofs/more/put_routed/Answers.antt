@@ -1,5 +1,4 @@
 -- `put_routed` meets its contract: each case is the definition's.
-use borrow.Author.Rules.{rules}
 use Rattle.answer_more.proofs.more.put_routed.Goals as goal
 
 pub returns-in-Route : goal.returns-in-Route

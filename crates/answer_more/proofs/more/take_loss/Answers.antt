@@ -1,5 +1,4 @@
 -- `take_loss` meets its contract: a 2, and the numbers of what is there.
-use borrow.Author.Rules.{rules}
 use Rattle.answer_numbers.proofs.TakeLaws.{then}
 use Rattle.answer_more.proofs.more.take_loss.Goals as goal
 

@@ -1,5 +1,4 @@
 -- `put_none` meets its contract: a `-` in a text, and nothing among words.
-use borrow.Author.Rules.{rules}
 use Rattle.answer_more.proofs.none.put_none.Goals as goal
 
 pub returns-in-Column : goal.returns-in-Column

@@ -1,5 +1,4 @@
 -- `put_shown` meets its contract: each case takes its own numbers.
-use borrow.Author.Rules.{rules}
 use Rattle.answer_more.proofs.PlaceLaws.{ended}
 use Rattle.answer_more.proofs.shown.put_shown.Goals as goal
 

@@ -1,5 +1,4 @@
 -- `take_captures_of` meets its contract: the captures are those of the view's record.
-use borrow.Author.Rules.{rules}
 use Rattle.answer_more.proofs.shown.take_captures_of.Goals as goal
 
 pub returns : goal.returns

@@ -1,5 +1,4 @@
 -- `take_layers_of` meets its contract: the layers are those of the view's record.
-use borrow.Author.Rules.{rules}
 use Rattle.answer_more.proofs.shown.take_layers_of.Goals as goal
 
 pub returns : goal.returns
