@@ -1,5 +1,5 @@
 -- Words in a buffer: numbers taken into a sink of words are put one by one, and with room for all they are their bytes.
-use Prim.Native.Nat.{ℕ, ◌+◌, ◌*◌, ◌≤◌}
+use Prim.Native.Nat.{ℕ, ◌*◌, ◌≤◌}
 use mathlib.Core.Bool.{Bool, false}
 use mathlib.Core.List.{List, [], ◌∷◌, ◌++◌, flatten, map}
 use mathlib.Core.Option.{Option, none, some}

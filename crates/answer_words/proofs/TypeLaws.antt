@@ -1,13 +1,10 @@
 -- The arrays of a counter have the length of their types: read off what its type and the types of its parts own.
-use mathlib.Core.List.{List, [], ◌∷◌, map}
-use mathlib.Core.Path.{sym, ◌∙◌}
-use lib.ListN.{length-map}
+use mathlib.Core.List.{List, [], ◌∷◌}
 use mir.Val.{Val}
 use denote.Array.{each}
 use denote.Laws.{Is}
 use denote.RattleType.{RattleType}
 use denote.Shadow.{shadow}
-use denote.Struct.Declared.{field}
 use denote.Struct.Laws as LL
 use Rattle.records.specs.declared.trace.CompositionTrace.{CompositionTrace}
 use Rattle.records.specs.declared.view.ViewRecord.{ViewRecord}
@@ -37,12 +34,12 @@ use Rattle.counter.proofs.step.Counter.TheLaws as K'
 use Rattle.answer_words.specs.Lengths.{All, ViewLengths, TraceLengths, Lengths}
 
 -- what a type's relation gives of one entry holds of each entry of an array
-all_of : {E : Type 0} (R : RattleType) (into : E → R.Denot) (P : E → Type 0)
-    → ((e : E) (u : Val) → Is R (into e) (u ∷ []) → P e)
-    → (l : List E) (us : List Val) → shadow (each R.Denot R.own (map into l) us) → All P l
-all_of R into P h [] us s = tt
-all_of R into P h (e ∷ l) [] s = absurd s
-all_of R into P h (e ∷ l) (u ∷ us) s = (h e u s.0, all_of R into P h l us s.1)
+all_of : (R : RattleType) (P : R.Denot → Type 0)
+    → ((e : R.Denot) (u : Val) → Is R e (u ∷ []) → P e)
+    → (l : List R.Denot) (us : List Val) → shadow (each R.Denot R.own_val l us) → All P l
+all_of R P h [] us s = tt
+all_of R P h (e ∷ l) [] s = absurd s
+all_of R P h (e ∷ l) (u ∷ us) s = (h e u s.0, all_of R P h l us s.1)
 
 view_lengths : (v : ViewRecord) {vs : List Val} → Is W.the_row v vs → ViewLengths v
 view_lengths v {vs} p =
@@ -72,10 +69,10 @@ counter_lengths k {vs} p =
     record {
       presses = bindings.long k.router.bindings b.1.1.1.0;
       views =
-          all_of (field W.the_type).row (field W.the_type).into ViewLengths (λ v u p. view_lengths v p)
+          all_of W.the_row ViewLengths (λ v u p. view_lengths v p)
           k.registry.views.records _ v.1.0.1.1;
       traces = traces.long k.registry.traces o.1.1.1.0;
       each_trace =
-          all_of (field C.the_type).row (field C.the_type).into TraceLengths (λ t u p. trace_lengths t p)
+          all_of C.the_row TraceLengths (λ t u p. trace_lengths t p)
           k.registry.traces.items _ t.0.1.1;
     }

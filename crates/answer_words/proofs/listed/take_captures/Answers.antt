@@ -1,0 +1,31 @@
+-- `take_captures` meets its contract: after i turns the numbers of the first i entries are taken.
+use Prim.Native.Nat.{◌<◌}
+use mathlib.Core.Path.{sym}
+use native.Mathlib.Omega.{arith}
+use lib.ListN.{length}
+use Rattle.lists.specs.Tables.{entries_of}
+use Rattle.release_lists.specs.Captures.{capture_list}
+use Rattle.answer_numbers.proofs.EachLaws.{none_taken, entry_taken, all_taken}
+use Rattle.answer_numbers.proofs.TakeLaws.{then, same_size}
+use Rattle.answer_numbers.specs.Groups.{capture_numbers}
+use Rattle.release_lists.proofs.CaptureLaws.{few_captures}
+use Rattle.answer_words.proofs.listed.take_captures.Goals as goal
+
+pub loop-i-init : goal.loop-i-init
+loop-i-init c = let a = c.args in (omega arith, omega (arith, few_captures a.list c.well_formed.1.1.0), none_taken capture_numbers (entries_of capture_list a.list) (c.take_count-next.new.out, c.take_count-next.result))
+
+pub loop-i-preserved : goal.loop-i-preserved
+loop-i-preserved c =
+    let a = c.args in
+    let l = c.loop-i in
+    let within : l.i < length (entries_of capture_list a.list) = omega arith in
+    (omega arith, omega arith, entry_taken capture_list capture_numbers a.list _ l.i _ within l.invariant.2 c.take_capture-next.ensures)
+
+pub returns : goal.returns
+returns c =
+    let a = c.args in
+    let l = c.loop-i in
+    rw (sym c.count-n.ensures) (then _ _ _ c.take_count-next.ensures (all_taken capture_numbers (entries_of capture_list a.list) _ l.i (omega arith) l.invariant.2))
+
+pub shape_of-out : goal.shape_of-out
+shape_of-out c = same_size _ _ (returns c)
