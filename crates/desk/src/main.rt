@@ -9,17 +9,18 @@ mod opening;
 mod steps;
 mod table;
 
-use libc::STDOUT_FILENO;
+use std::io;
 
 // Writes the first `len` bytes of a text.
-fn write_front(text: &[u8], len: usize) {
+fn write_front(rt: &impl Print, text: &[u8], len: usize) -> io::Result<()> {
     if len <= text.len() {
-        io::write_all(STDOUT_FILENO, &text[..len]);
+        return rt.write_all(&text[..len]);
     }
+    Ok(())
 }
 
-fn main() {
+fn main(rt: HostRuntime) -> io::Result<()> {
     let mut text = [0u8; 1024];
     let end = table::put_table(&mut text);
-    write_front(&text, end);
+    write_front(&rt, &text, end)
 }

@@ -11,7 +11,7 @@ use answer_text::put::{put_byte, put_u64};
 use composition_hits::stack::hit_test_stack;
 use composition_state::registry::CompositionRegistry;
 use geometry::transform::Point;
-use libc::STDOUT_FILENO;
+use std::io;
 
 // The numbers on a line of their own.
 fn put_numbers(out: &mut [u8], at: usize, numbers: &[u64]) -> usize {
@@ -40,18 +40,19 @@ fn put_test(out: &mut [u8], at: usize, registry: CompositionRegistry, buffer: &m
 }
 
 // Writes the first `len` bytes of a text.
-fn write_front(text: &[u8], len: usize) {
+fn write_front(rt: &impl Print, text: &[u8], len: usize) -> io::Result<()> {
     if len <= text.len() {
-        io::write_all(STDOUT_FILENO, &text[..len]);
+        return rt.write_all(&text[..len]);
     }
+    Ok(())
 }
 
-fn main() {
+fn main(rt: HostRuntime) -> io::Result<()> {
     let registry = open();
     let mut text = [0u8; 512];
     let mut long = [7u64; 34];
     let half = put_test(&mut text, 0, registry, &mut long);
     let mut short = [7u64; 31];
     let end = put_test(&mut text, half, registry, &mut short);
-    write_front(&text, end);
+    write_front(&rt, &text, end)
 }
