@@ -9,34 +9,34 @@ mod opening;
 mod tally;
 mod turns;
 
-use libc::STDOUT_FILENO;
+use std::env::Env;
+use std::io;
 
-fn write_number(n: u64, end: &[u8]) {
-    io::print_decimal(STDOUT_FILENO, n);
-    io::write_all(STDOUT_FILENO, end);
+fn write_tally(rt: &impl Print, tally: tally::Tally) -> io::Result<()> {
+    println!(rt; "{} {} {}", tally.revision, tally.presses, tally.sum)
 }
 
-fn write_tally(tally: tally::Tally) {
-    write_number(tally.revision, b" ");
-    write_number(tally.presses, b" ");
-    write_number(tally.sum, b"\n");
+// An argument's bytes, put into a buffer; none where it is missing or does not fit.
+fn word_at<'a>(rt: &impl Env, i: usize, word: &'a mut [u8]) -> &'a [u8] {
+    match rt.arg(i, word) {
+        Ok(n) => &word[..n],
+        Err(_) => &[],
+    }
 }
 
 // A word that is no number asks for no turns.
-fn turns_asked() -> u64 {
+fn turns_asked(rt: &impl Env) -> u64 {
     let mut word = [0u8; 20];
-    let n = os::arg(2, &mut word);
-    let reading = script::number::read_number(&word[..n]);
+    let reading = script::number::read_number(word_at(rt, 2, &mut word));
     let number = reading.number;
     number.magnitude
 }
 
-fn case_asked() -> cases::Case {
+fn case_asked(rt: &impl Env) -> cases::Case {
     let mut word = [0u8; 32];
-    let n = os::arg(1, &mut word);
-    cases::named(&word[..n])
+    cases::named(word_at(rt, 1, &mut word))
 }
 
-fn main() {
-    write_tally(cases::run(case_asked(), turns_asked()));
+fn main(rt: HostRuntime) -> io::Result<()> {
+    write_tally(&rt, cases::run(case_asked(&rt), turns_asked(&rt)))
 }

@@ -12,38 +12,39 @@ mod views;
 use composition_state::registry::{CompositionLimits, CompositionRegistry};
 use geometry::surface::SurfaceGeometry;
 use handles::GenerationalHandle;
-use libc::STDOUT_FILENO;
 use maps::keys::CompositionPointerId;
 use records::error::Outcome;
 use records::surface::{SurfaceDescriptor, SurfaceInputPolicy, SurfaceKind};
+use std::io;
 
 // A name, a space, a number and a line feed.
-pub fn show(name: &[u8], n: u64) {
+pub fn show(rt: &impl Print, name: &[u8], n: u64) -> io::Result<()> {
     let mut line = [0u8; 80];
     let named = answer_text::put::put_bytes(&mut line, 0, name);
     let spaced = answer_text::put::put_byte(&mut line, named, b' ');
     let numbered = answer_text::put::put_u64(&mut line, spaced, n);
     let ended = answer_text::put::put_byte(&mut line, numbered, b'\n');
-    write_front(&line, ended);
+    write_front(rt, &line, ended)
 }
 
 // A name and the number of an answer.
-pub fn report(name: &[u8], outcome: Outcome) {
-    show(name, records::error::number(outcome));
+pub fn report(rt: &impl Print, name: &[u8], outcome: Outcome) -> io::Result<()> {
+    show(rt, name, records::error::number(outcome))
 }
 
 // Writes the first `len` bytes of a line.
-pub fn write_front(line: &[u8], len: usize) {
+pub fn write_front(rt: &impl Print, line: &[u8], len: usize) -> io::Result<()> {
     if len <= line.len() {
-        io::write_all(STDOUT_FILENO, &line[..len]);
+        return rt.write_all(&line[..len]);
     }
+    Ok(())
 }
 
 // A call that every sound registry with a place left accepts.
-pub fn ask(name: &[u8], registry: CompositionRegistry) {
+pub fn ask(rt: &impl Print, name: &[u8], registry: CompositionRegistry) -> io::Result<()> {
     let answered = composition_panels::windows::create_window(registry);
     let outcome = answered.outcome;
-    report(name, outcome);
+    report(rt, name, outcome)
 }
 
 pub fn first(index: u32) -> GenerationalHandle {
@@ -125,12 +126,12 @@ fn captured(registry: CompositionRegistry) -> CompositionRegistry {
     capture_of(capture_of(registry, CompositionPointerId::PRIMARY), pointer)
 }
 
-fn main() {
+fn main(rt: HostRuntime) -> io::Result<()> {
     let registry = base();
-    ask(b"sound", registry);
-    arenas::ask_all(registry);
-    views::ask_all(registry);
-    odd::ask_all(registry);
-    routers::ask_all(registry);
-    reads::ask_all(registry);
+    ask(&rt, b"sound", registry)?;
+    arenas::ask_all(&rt, registry)?;
+    views::ask_all(&rt, registry)?;
+    odd::ask_all(&rt, registry)?;
+    routers::ask_all(&rt, registry)?;
+    reads::ask_all(&rt, registry)
 }

@@ -4,6 +4,7 @@ use handles::arena::Slot;
 use handles::{GenerationalHandle, OptionalHandle};
 use records::layers::Layers;
 use records::surface::SurfaceRecord;
+use std::io;
 
 // Panel 2 taken out of its view's layers.
 fn outside_layers(mut registry: CompositionRegistry) -> CompositionRegistry {
@@ -26,25 +27,30 @@ fn orphaned(mut outside: CompositionRegistry, view: GenerationalHandle) -> Compo
     outside
 }
 
-fn ask_focus(name: &[u8], registry: CompositionRegistry, view: GenerationalHandle) {
+fn ask_focus(
+    rt: &impl Print,
+    name: &[u8],
+    registry: CompositionRegistry,
+    view: GenerationalHandle,
+) -> io::Result<()> {
     let surface = OptionalHandle::Some(crate::first(2));
     let answered = composition_input::focus::set_focus(registry, view, surface, registry.revision);
     let outcome = answered.outcome;
-    crate::report(name, outcome);
+    crate::report(rt, name, outcome)
 }
 
-fn ask_capture(name: &[u8], registry: CompositionRegistry) {
+fn ask_capture(rt: &impl Print, name: &[u8], registry: CompositionRegistry) -> io::Result<()> {
     let answered = composition_input::captures::capture_pointer(
         registry,
         crate::first(2),
         registry.revision,
     );
     let outcome = answered.outcome;
-    crate::report(name, outcome);
+    crate::report(rt, name, outcome)
 }
 
 // What stands in places that no count reaches is read by nobody.
-fn ask_garbage(mut registry: CompositionRegistry) {
+fn ask_garbage(rt: &impl Print, mut registry: CompositionRegistry) -> io::Result<()> {
     let mut windows = registry.windows;
     windows.slots[40] = Slot {
         generation: 0,
@@ -52,16 +58,17 @@ fn ask_garbage(mut registry: CompositionRegistry) {
     };
     windows.free[40] = 99;
     registry.windows = windows;
-    crate::ask(b"odd: garbage in unused places", registry);
+    crate::ask(rt, b"odd: garbage in unused places", registry)
 }
 
-fn ask_outside(outside: CompositionRegistry) {
-    crate::ask(b"odd: a panel outside the layers", outside);
+fn ask_outside(rt: &impl Print, outside: CompositionRegistry) -> io::Result<()> {
+    crate::ask(rt, b"odd: a panel outside the layers", outside)?;
     ask_focus(
+        rt,
         b"odd: focus on a panel outside the layers",
         outside,
         crate::first(2),
-    );
+    )
 }
 
 // A view that is closed, by another generation, and one that never was.
@@ -76,23 +83,24 @@ fn unknown() -> GenerationalHandle {
     crate::first(3)
 }
 
-fn ask_stale(orphan: CompositionRegistry) {
-    ask_capture(b"odd: capture by a panel of a stale view", orphan);
+fn ask_stale(rt: &impl Print, orphan: CompositionRegistry) -> io::Result<()> {
+    ask_capture(rt, b"odd: capture by a panel of a stale view", orphan)?;
     ask_focus(
+        rt,
         b"odd: focus in a stale view, its panel's own",
         orphan,
         stale(),
-    );
+    )
 }
 
-fn ask_unknown(orphan: CompositionRegistry) {
-    ask_capture(b"odd: capture by a panel of an unknown view", orphan);
+fn ask_unknown(rt: &impl Print, orphan: CompositionRegistry) -> io::Result<()> {
+    ask_capture(rt, b"odd: capture by a panel of an unknown view", orphan)
 }
 
-pub fn ask_all(registry: CompositionRegistry) {
-    ask_garbage(registry);
-    ask_outside(outside_layers(registry));
-    ask_stale(orphaned(outside_layers(registry), stale()));
-    ask_unknown(orphaned(outside_layers(registry), unknown()));
-    ask_focus(b"odd: focus in an unknown view", registry, unknown());
+pub fn ask_all(rt: &impl Print, registry: CompositionRegistry) -> io::Result<()> {
+    ask_garbage(rt, registry)?;
+    ask_outside(rt, outside_layers(registry))?;
+    ask_stale(rt, orphaned(outside_layers(registry), stale()))?;
+    ask_unknown(rt, orphaned(outside_layers(registry), unknown()))?;
+    ask_focus(rt, b"odd: focus in an unknown view", registry, unknown())
 }

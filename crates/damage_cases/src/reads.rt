@@ -5,11 +5,18 @@ use calls::call::ReadCall;
 use composition_state::registry::CompositionRegistry;
 use geometry::transform::{Point, SurfaceTransform};
 use input_router::router::PlatformInputRouter;
+use std::io;
 
-fn ask(name: &[u8], registry: CompositionRegistry, router: PlatformInputRouter, call: ReadCall) {
+fn ask(
+    rt: &impl Print,
+    name: &[u8],
+    registry: CompositionRegistry,
+    router: PlatformInputRouter,
+    call: ReadCall,
+) -> io::Result<()> {
     let answered = read_step::steps::read_step(registry, router, call);
     let outcome = answered.outcome;
-    crate::report(name, outcome);
+    crate::report(rt, name, outcome)
 }
 
 // Live counts that are not the number of filled slots, a different one in each table.
@@ -30,87 +37,122 @@ fn origin() -> InversePointArguments {
 }
 
 // The plain fields of a damaged registry.
-fn show_fields(registry: CompositionRegistry) {
+fn show_fields(rt: &impl Print, registry: CompositionRegistry) -> io::Result<()> {
     let session = composition_reads::session(registry);
-    crate::show(b"plain: session, index", session.index as u64);
-    crate::show(b"plain: session, generation", session.generation as u64);
-    crate::show(b"plain: epoch", composition_reads::session_epoch(registry));
-    crate::show(b"plain: revision", composition_reads::revision(registry));
+    crate::show(rt, b"plain: session, index", session.index as u64)?;
+    crate::show(rt, b"plain: session, generation", session.generation as u64)?;
     crate::show(
+        rt,
+        b"plain: epoch",
+        composition_reads::session_epoch(registry),
+    )?;
+    crate::show(
+        rt,
+        b"plain: revision",
+        composition_reads::revision(registry),
+    )?;
+    crate::show(
+        rt,
         b"plain: live windows",
         composition_reads::live_window_count(registry) as u64,
-    );
+    )?;
     crate::show(
+        rt,
         b"plain: live views",
         composition_reads::live_view_count(registry) as u64,
-    );
+    )?;
     crate::show(
+        rt,
         b"plain: live panels",
         composition_reads::live_surface_count(registry) as u64,
-    );
+    )
 }
 
 // Reads of a damaged registry beside a sound router.
-fn ask_registry(damaged: CompositionRegistry, router: PlatformInputRouter) {
+fn ask_registry(
+    rt: &impl Print,
+    damaged: CompositionRegistry,
+    router: PlatformInputRouter,
+) -> io::Result<()> {
     ask(
+        rt,
         b"reads: traces, the registry damaged",
         damaged,
         router,
         ReadCall::Traces,
-    );
+    )?;
     ask(
+        rt,
         b"reads: counts, the registry damaged",
         damaged,
         router,
         ReadCall::Counts,
-    );
+    )?;
     ask(
+        rt,
         b"reads: open presses, the registry damaged",
         damaged,
         router,
         ReadCall::ActiveBindingCount,
-    );
+    )
 }
 
 // Reads of a damaged router beside a sound registry.
-fn ask_router(registry: CompositionRegistry, damaged: PlatformInputRouter) {
+fn ask_router(
+    rt: &impl Print,
+    registry: CompositionRegistry,
+    damaged: PlatformInputRouter,
+) -> io::Result<()> {
     ask(
+        rt,
         b"reads: traces, the router damaged",
         registry,
         damaged,
         ReadCall::Traces,
-    );
+    )?;
     ask(
+        rt,
         b"reads: counts, the router damaged",
         registry,
         damaged,
         ReadCall::Counts,
-    );
+    )?;
     ask(
+        rt,
         b"reads: open presses, the router damaged",
         registry,
         damaged,
         ReadCall::ActiveBindingCount,
-    );
+    )
 }
 
 // A read of neither, where both are damaged.
-fn ask_neither(registry: CompositionRegistry, router: PlatformInputRouter) {
+fn ask_neither(
+    rt: &impl Print,
+    registry: CompositionRegistry,
+    router: PlatformInputRouter,
+) -> io::Result<()> {
     ask(
+        rt,
         b"reads: an inverse point, both damaged",
         registry,
         router,
         ReadCall::InversePoint(origin()),
-    );
-    show_fields(registry);
+    )?;
+    show_fields(rt, registry)?;
     crate::show(
+        rt,
         b"plain: open presses of a damaged router",
         router.active_binding_count() as u64,
-    );
+    )
 }
 
-pub fn ask_all(registry: CompositionRegistry) {
-    ask_registry(miscounted(registry), crate::routers::base());
-    ask_router(registry, crate::routers::with_falling_keys());
-    ask_neither(miscounted(registry), crate::routers::with_falling_keys());
+pub fn ask_all(rt: &impl Print, registry: CompositionRegistry) -> io::Result<()> {
+    ask_registry(rt, miscounted(registry), crate::routers::base())?;
+    ask_router(rt, registry, crate::routers::with_falling_keys())?;
+    ask_neither(
+        rt,
+        miscounted(registry),
+        crate::routers::with_falling_keys(),
+    )
 }

@@ -11,6 +11,7 @@ use input_router::router::PlatformInputRouter;
 use maps::bindings::{Binding, Bindings};
 use maps::keys::{BindingKey, DeviceKey, InputDeviceId};
 use maps::sequences::{DeviceSequence, DeviceSequences};
+use std::io;
 
 fn device(value: u64) -> InputDeviceId {
     InputDeviceId {
@@ -66,23 +67,35 @@ fn release_all(router: PlatformInputRouter) -> RouterOutcome {
 }
 
 // A name and the three answers, each behind a space.
-fn ask(name: &[u8], registry: CompositionRegistry, router: PlatformInputRouter) {
+fn ask(
+    rt: &impl Print,
+    name: &[u8],
+    registry: CompositionRegistry,
+    router: PlatformInputRouter,
+) -> io::Result<()> {
     report(
+        rt,
         name,
         route(registry, router),
         release_panel(router),
         release_all(router),
-    );
+    )
 }
 
-fn report(name: &[u8], route: RouterOutcome, panel: RouterOutcome, all: RouterOutcome) {
+fn report(
+    rt: &impl Print,
+    name: &[u8],
+    route: RouterOutcome,
+    panel: RouterOutcome,
+    all: RouterOutcome,
+) -> io::Result<()> {
     let mut line = [0u8; 80];
     let named = answer_text::put::put_bytes(&mut line, 0, name);
     let routed = put_answer(&mut line, named, route);
     let of_panel = put_answer(&mut line, routed, panel);
     let of_all = put_answer(&mut line, of_panel, all);
     let ended = answer_text::put::put_byte(&mut line, of_all, b'\n');
-    crate::write_front(&line, ended);
+    crate::write_front(rt, &line, ended)
 }
 
 fn put_answer(line: &mut [u8], at: usize, outcome: RouterOutcome) -> usize {
@@ -154,49 +167,74 @@ pub fn with_falling_keys() -> PlatformInputRouter {
     with_presses(base(), high, low, 2)
 }
 
-fn ask_with_presses(name: &[u8], registry: CompositionRegistry, low: u32, high: u32, len: usize) {
+fn ask_with_presses(
+    rt: &impl Print,
+    name: &[u8],
+    registry: CompositionRegistry,
+    low: u32,
+    high: u32,
+    len: usize,
+) -> io::Result<()> {
     let first = key_press(7, low, crate::first(0));
     let second = key_press(7, high, crate::first(1));
-    ask(name, registry, with_presses(base(), first, second, len));
+    ask(rt, name, registry, with_presses(base(), first, second, len))
 }
 
-fn ask_with_devices(name: &[u8], registry: CompositionRegistry, low: u64, high: u64, len: usize) {
-    ask(name, registry, with_devices(base(), low, high, len));
+fn ask_with_devices(
+    rt: &impl Print,
+    name: &[u8],
+    registry: CompositionRegistry,
+    low: u64,
+    high: u64,
+    len: usize,
+) -> io::Result<()> {
+    ask(rt, name, registry, with_devices(base(), low, high, len))
 }
 
-fn ask_with_limit(name: &[u8], registry: CompositionRegistry, limit: u64, presses: usize) {
+fn ask_with_limit(
+    rt: &impl Print,
+    name: &[u8],
+    registry: CompositionRegistry,
+    limit: u64,
+    presses: usize,
+) -> io::Result<()> {
     let low = key_press(7, 30, crate::first(0));
     let high = key_press(7, 31, crate::first(1));
     let counted = with_presses(base(), low, high, presses);
-    ask(name, registry, with_limit(counted, limit));
+    ask(rt, name, registry, with_limit(counted, limit))
 }
 
-fn ask_limits(registry: CompositionRegistry) {
-    ask_with_limit(b"router: a limit of 0, no presses", registry, 0, 0);
-    ask_with_limit(b"router: a limit over the port's", registry, 129, 2);
-    ask_with_limit(b"presses: a count over the table", registry, 128, 129);
-    ask_with_limit(b"presses: a count over the limit", registry, 1, 2);
+fn ask_limits(rt: &impl Print, registry: CompositionRegistry) -> io::Result<()> {
+    ask_with_limit(rt, b"router: a limit of 0, no presses", registry, 0, 0)?;
+    ask_with_limit(rt, b"router: a limit over the port's", registry, 129, 2)?;
+    ask_with_limit(rt, b"presses: a count over the table", registry, 128, 129)?;
+    ask_with_limit(rt, b"presses: a count over the limit", registry, 1, 2)
 }
 
-fn ask_keys(registry: CompositionRegistry) {
-    ask_with_presses(b"presses: equal keys", registry, 30, 30, 2);
-    ask_with_presses(b"presses: falling keys", registry, 31, 30, 2);
+fn ask_keys(rt: &impl Print, registry: CompositionRegistry) -> io::Result<()> {
+    ask_with_presses(rt, b"presses: equal keys", registry, 30, 30, 2)?;
+    ask_with_presses(rt, b"presses: falling keys", registry, 31, 30, 2)?;
     ask_with_devices(
+        rt,
         b"device sequences: a count over the table",
         registry,
         7,
         8,
         33,
-    );
-    ask_with_devices(b"device sequences: equal keys", registry, 7, 7, 2);
-    ask_with_devices(b"device sequences: falling keys", registry, 8, 7, 2);
+    )?;
+    ask_with_devices(rt, b"device sequences: equal keys", registry, 7, 7, 2)?;
+    ask_with_devices(rt, b"device sequences: falling keys", registry, 8, 7, 2)
 }
 
 // A press of a panel that never was, held by a device that is not known.
-fn ask_strange_press(name: &[u8], registry: CompositionRegistry) {
+fn ask_strange_press(
+    rt: &impl Print,
+    name: &[u8],
+    registry: CompositionRegistry,
+) -> io::Result<()> {
     let first = key_press(5, 30, crate::first(60));
     let second = key_press(6, 30, crate::first(60));
-    ask(name, registry, with_presses(base(), first, second, 2));
+    ask(rt, name, registry, with_presses(base(), first, second, 2))
 }
 
 // Keys that fall and repeat behind the counts.
@@ -211,26 +249,31 @@ fn with_garbage(bindings: Bindings, sequences: DeviceSequences) -> PlatformInput
     base().with_bindings(presses).with_sequences(known)
 }
 
-fn ask_garbage(name: &[u8], registry: CompositionRegistry) {
+fn ask_garbage(rt: &impl Print, name: &[u8], registry: CompositionRegistry) -> io::Result<()> {
     let router = base();
     ask(
+        rt,
         name,
         registry,
         with_garbage(router.bindings, router.device_sequences),
-    );
+    )
 }
 
-fn ask_odd(registry: CompositionRegistry) {
-    ask_with_limit(b"odd: as many presses as the limit", registry, 2, 2);
-    ask_with_limit(b"odd: a limit of 128", registry, 128, 2);
-    ask_strange_press(b"odd: a press of no panel by an unknown device", registry);
-    ask_with_devices(b"odd: a known device 0", registry, 0, 8, 2);
-    ask_garbage(b"odd: garbage in a router's unused places", registry);
+fn ask_odd(rt: &impl Print, registry: CompositionRegistry) -> io::Result<()> {
+    ask_with_limit(rt, b"odd: as many presses as the limit", registry, 2, 2)?;
+    ask_with_limit(rt, b"odd: a limit of 128", registry, 128, 2)?;
+    ask_strange_press(
+        rt,
+        b"odd: a press of no panel by an unknown device",
+        registry,
+    )?;
+    ask_with_devices(rt, b"odd: a known device 0", registry, 0, 8, 2)?;
+    ask_garbage(rt, b"odd: garbage in a router's unused places", registry)
 }
 
-pub fn ask_all(registry: CompositionRegistry) {
-    ask(b"router: sound", registry, base());
-    ask_limits(registry);
-    ask_keys(registry);
-    ask_odd(registry);
+pub fn ask_all(rt: &impl Print, registry: CompositionRegistry) -> io::Result<()> {
+    ask(rt, b"router: sound", registry, base())?;
+    ask_limits(rt, registry)?;
+    ask_keys(rt, registry)?;
+    ask_odd(rt, registry)
 }

@@ -3,11 +3,17 @@ use composition_state::registry::CompositionRegistry;
 use maps::captures::PointerCaptures;
 use records::layers::Layers;
 use records::view::ViewRecord;
+use std::io;
 
 // View 0 with another record.
-fn ask(name: &[u8], mut registry: CompositionRegistry, record: ViewRecord) {
+fn ask(
+    rt: &impl Print,
+    name: &[u8],
+    mut registry: CompositionRegistry,
+    record: ViewRecord,
+) -> io::Result<()> {
     registry.views = registry.views.with_record(crate::first(0), record);
-    crate::ask(name, registry);
+    crate::ask(rt, name, registry)
 }
 
 fn with_layers(layers: Layers, low: u32, high: u32, len: usize) -> Layers {
@@ -25,48 +31,73 @@ fn with_equal_keys(captures: PointerCaptures) -> PointerCaptures {
     next
 }
 
-fn ask_window(name: &[u8], registry: CompositionRegistry, mut record: ViewRecord) {
+fn ask_window(
+    rt: &impl Print,
+    name: &[u8],
+    registry: CompositionRegistry,
+    mut record: ViewRecord,
+) -> io::Result<()> {
     record.window = crate::first(1);
-    ask(name, registry, record);
+    ask(rt, name, registry, record)
 }
 
 fn ask_layers(
+    rt: &impl Print,
     name: &[u8],
     registry: CompositionRegistry,
     mut record: ViewRecord,
     low: u32,
     high: u32,
     len: usize,
-) {
+) -> io::Result<()> {
     record.surfaces = with_layers(record.surfaces, low, high, len);
-    ask(name, registry, record);
+    ask(rt, name, registry, record)
 }
 
-fn ask_capture_count(name: &[u8], registry: CompositionRegistry, mut record: ViewRecord) {
+fn ask_capture_count(
+    rt: &impl Print,
+    name: &[u8],
+    registry: CompositionRegistry,
+    mut record: ViewRecord,
+) -> io::Result<()> {
     record.pointer_captures.len = 33;
-    ask(name, registry, record);
+    ask(rt, name, registry, record)
 }
 
-fn ask_capture_keys(name: &[u8], registry: CompositionRegistry, mut record: ViewRecord) {
+fn ask_capture_keys(
+    rt: &impl Print,
+    name: &[u8],
+    registry: CompositionRegistry,
+    mut record: ViewRecord,
+) -> io::Result<()> {
     record.pointer_captures = with_equal_keys(record.pointer_captures);
-    ask(name, registry, record);
+    ask(rt, name, registry, record)
 }
 
-pub fn ask_all(registry: CompositionRegistry) {
+pub fn ask_all(rt: &impl Print, registry: CompositionRegistry) -> io::Result<()> {
     let record = registry.views.record(crate::first(0));
-    ask_window(b"view: its window not live", registry, record);
-    ask_layers(b"layers: a count over the limit", registry, record, 0, 1, 5);
-    ask_layers(b"layers: a panel twice", registry, record, 1, 1, 2);
-    ask_layers(b"layers: a panel not live", registry, record, 0, 5, 2);
+    ask_window(rt, b"view: its window not live", registry, record)?;
     ask_layers(
+        rt,
+        b"layers: a count over the limit",
+        registry,
+        record,
+        0,
+        1,
+        5,
+    )?;
+    ask_layers(rt, b"layers: a panel twice", registry, record, 1, 1, 2)?;
+    ask_layers(rt, b"layers: a panel not live", registry, record, 0, 5, 2)?;
+    ask_layers(
+        rt,
         b"layers: a panel of another view",
         registry,
         record,
         0,
         2,
         2,
-    );
-    ask_layers(b"layers: not in layer order", registry, record, 1, 0, 2);
-    ask_capture_count(b"captures: a count over the table", registry, record);
-    ask_capture_keys(b"captures: keys that do not rise", registry, record);
+    )?;
+    ask_layers(rt, b"layers: not in layer order", registry, record, 1, 0, 2)?;
+    ask_capture_count(rt, b"captures: a count over the table", registry, record)?;
+    ask_capture_keys(rt, b"captures: keys that do not rise", registry, record)
 }
