@@ -22,7 +22,7 @@ use Rattle.calls.specs.declared.call.Call.TheVariants.{Panel, Input, ReleaseDevi
 use Rattle.calls.specs.declared.call.CloseCall.TheVariants.{CloseSurface, Shutdown}
 use Rattle.calls.specs.declared.call.Lists.{Lists}
 use Rattle.calls.specs.declared.call.RouterCall.TheVariants.{Route, ReleaseSurface, ReleaseAll}
-use Rattle.book.specs.Book.{Asked, Told, Book, empty_book}
+use Rattle.book.specs.Book.{Asked, Book, empty_book}
 use Rattle.book.specs.Notes.{change, changed, changes, registered, noted, note}
 use Rattle.book.specs.Owed.{concern, is_same_press_of, is_same_release, is_among, none_twice, concerned_presses, concerned_captures, then_captures, owed_presses, owed_captures, owed, without_concerned}
 use Rattle.registry_book.proofs.ClaimLaws as registry

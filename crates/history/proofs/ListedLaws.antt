@@ -2,7 +2,6 @@
 use mathlib.Core.Path.{◌≡◌, refl, sym, ap, ◌∙◌}
 use mathlib.Core.Bool.{Bool, true, false, not, ◌&&◌}
 use mathlib.Core.List.{List, [], ◌∷◌, ◌++◌, append_assoc, append-nil, map}
-use borrow.Author.Tests.{not-true}
 use Rattle.lists.specs.Lists.{keep, first, all}
 use Rattle.lists.specs.MapClaims.{MapClaims}
 use Rattle.lists.specs.Maps.{rising, lookup}

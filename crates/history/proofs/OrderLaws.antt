@@ -1,9 +1,8 @@
 -- What a sound router lists for a panel, a device or a view rises by the book's order: its presses do, and each list is a part of them.
 use mathlib.Core.Path.{◌≡◌, refl, ap, ◌∙◌}
-use mathlib.Core.Bool.{Bool, true, cond, not}
+use mathlib.Core.Bool.{Bool, true, cond}
 use mathlib.Core.List.{List, []}
 use Rattle.lists.specs.Lists.{keep}
-use Rattle.lists.specs.Maps.{rising}
 use Rattle.lists.specs.Tables.{entries_of}
 use Rattle.lists.proofs.RisingLaws.{rising_keep}
 use Rattle.lists.proofs.TableLaws.{entries_packed}
@@ -15,14 +14,12 @@ use Rattle.records.specs.declared.surface.SurfaceTable.{SurfaceTable}
 use Rattle.composition_soundness.proofs.CaseLaws.{either}
 use Rattle.release_lists.specs.Releases.{releases, is_on}
 use Rattle.input_router.specs.declared.router.PlatformInputRouter.{PlatformInputRouter}
-use Rattle.input_router.specs.declared.view_releases.OptionalBinding.{OptionalBinding}
 use Rattle.input_router.specs.Damage.{is_router_sound}
 use Rattle.input_router.specs.Releases.{is_of_device, release_surface}
 use Rattle.input_router.specs.Router.{presses_of}
 use Rattle.input_router.specs.ViewReleases.{first_closed, closed_refusal, is_taken, release_view}
 use Rattle.input_router.proofs.ClaimLaws as router
 use Rattle.input_router.proofs.SoundLaws.{parts}
-use Rattle.book.specs.Ids.{press_before}
 use Rattle.book.specs.Book.{key_of}
 use Rattle.history.specs.ReleaseOrder.{in_release_order, ReleaseOrder}
 use Rattle.history.proofs.TestLaws.{presses, rising_is}

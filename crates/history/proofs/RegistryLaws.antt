@@ -47,7 +47,7 @@ use Rattle.counter.specs.Step.{close_step, stepped}
 use Rattle.history.specs.Histories.{Entry, entry_of}
 use Rattle.history.proofs.TestLaws.{capture_is}
 use Rattle.history.proofs.OnceLaws.{places}
-use Rattle.history.proofs.JoinLaws.{Shared, Joined, Right, Allowed, still_hosted, hosted_but, registry_right}
+use Rattle.history.proofs.JoinLaws.{Joined, Right, Allowed, still_hosted, hosted_but, registry_right}
 
 -- ---- the book follows an accepted call
 module _ (r : CompositionRegistry) (u : Undamaged r) (b : Book) (a : Agrees r b) where

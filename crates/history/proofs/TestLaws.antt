@@ -7,7 +7,7 @@ use lib.Dec.{ltb, eqb}
 use Rattle.lists.specs.Lists.{keep}
 use Rattle.lists.specs.Maps.{insert, rising, remove}
 use Rattle.lists.specs.Orders.{Ordered}
-use Rattle.lists.proofs.ListLaws.{by_test, clash}
+use Rattle.lists.proofs.ListLaws.{by_test}
 use Rattle.lists.proofs.OrderLaws.{number, through}
 use Rattle.handles.specs.Handles.{same_handle, handle_lt}
 use Rattle.handles.specs.declared.GenerationalHandle.{GenerationalHandle}

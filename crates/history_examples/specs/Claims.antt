@@ -1,11 +1,10 @@
 -- Demand 3's premises can be met, and none of them can be left out.
-use Rattle.std.specs.Prelude.{ℕ, ◌≡◌, Bool, true, false, not, cond, ◌&&◌, ◌||◌, List, [], ◌∷◌, map, eqb}
+use Rattle.std.specs.Prelude.{ℕ, ◌≡◌, Bool, true, false, not, cond, ◌&&◌, List, [], ◌∷◌, map, eqb}
 use Rattle.std.proofs.Math.Option.{Option, none, some}
 use Rattle.lists.specs.Lists.{all}
 use Rattle.handles.specs.declared.GenerationalHandle.{GenerationalHandle}
 use Rattle.maps.specs.declared.bindings.Binding.{Binding}
 use Rattle.input_events.specs.declared.event.PlatformInputPayload.TheVariants.{DeviceDisconnected}
-use Rattle.input_router.specs.Router.{presses_of}
 use Rattle.calls.specs.declared.call.Call.{Call}
 use Rattle.calls.specs.declared.call.Call.TheVariants.{Panel, Input, ReleaseDevice, Shortcut, Arbitrate, Close, Router, Read}
 use Rattle.calls.specs.declared.call.CloseCall.TheVariants.{CloseSurface, Shutdown}
@@ -13,9 +12,8 @@ use Rattle.calls.specs.declared.call.RouterCall.TheVariants.{Route, ReleaseSurfa
 use Rattle.book.specs.Ids.{is_same_handle}
 use Rattle.book.specs.Book.{Asked, Held, Book, empty_book}
 use Rattle.book.specs.Notes.{note}
-use Rattle.book.specs.Owed.{owed}
-use Rattle.book.specs.Examples.{handle_at, finger, key_on, gamepad_on, grip}
-use Rattle.history.specs.Histories.{Start, fresh, Entry, after, history, book_after}
+use Rattle.book.specs.Examples.{handle_at, finger, key_on, grip}
+use Rattle.history.specs.Histories.{Start, fresh, Entry, history}
 use Rattle.history.specs.Demand.{Accepts, is_read, closed_in, Premises, NothingLost}
 use Rattle.history_examples.specs.Lists.{start_at, open_window, open_view, attach, capture, event_at, event, key_down, snapshot, focus_lost, close, shutdown, release, release_all, count}
 

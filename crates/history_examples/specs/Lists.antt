@@ -1,5 +1,5 @@
 -- Lists of calls at a counter with one window and one view, whose panels are Exclusive and so take every event.
-use Rattle.std.specs.Prelude.{ℕ, Bool, false, List, [], ◌∷◌, ℤ, pos}
+use Rattle.std.specs.Prelude.{ℕ, Bool, false, [], pos}
 use Rattle.lists.specs.Tables.{packed}
 use Rattle.handles.specs.declared.GenerationalHandle.{GenerationalHandle}
 use Rattle.geometry.specs.Surface.{default_geometry}

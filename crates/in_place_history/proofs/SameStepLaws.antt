@@ -1,6 +1,6 @@
 -- Each call of an in-place entry is the same step, by its contract and `stepped`'s cases; a list of calls by induction.
 use mathlib.Core.Path.{◌≡◌, refl, sym, ap, subst, ◌∙◌}
-use mathlib.Core.List.{List, [], ◌∷◌, ◌++◌, map}
+use mathlib.Core.List.{List, [], ◌∷◌, map}
 use Rattle.lists.specs.Tables.{entries_of, packed}
 use Rattle.lists.proofs.ListLaws.{map_append}
 use Rattle.input_router.specs.Router.{presses_of}
@@ -12,22 +12,22 @@ use Rattle.history.specs.Demand.{Accepts, Premises}
 use Rattle.history.specs.Histories.{Start, Entry, entry_of, after, history, book_after, fresh}
 use Rattle.history.proofs.HistoryLaws.{demand_3, never_damaged}
 use Rattle.in_place_history.specs.Claims.{step_for, SameSteps, Demand3For, Demand3InPlace}
-use Rattle.in_place_history.specs.Entries.{InPlaceCall, step, route, release_surface_lem, release_all_lem, HoldsTo, Leads, route_entry, release_entry, entry_for, asked}
+use Rattle.in_place_history.specs.Entries.{InPlaceCall, step, route, release_surface, release_all, HoldsTo, Leads, route_entry, release_entry, entry_for, asked}
 
 counter : (x : InPlaceCall) (c exit : Counter) → HoldsTo x c exit → exit ≡ (step_for x c).counter
 unfolding stepped router_step
 counter (step x answer) c exit h = h.0
 counter (route e answer) c exit h = λ i. record { registry = h.0 i; router = h.1 i }
-counter (release_surface_lem g answer) c exit h = λ i. record { registry = h.0 i; router = h.1.0 i }
-counter (release_all_lem answer) c exit h = λ i. record { registry = h.0 i; router = h.1.0 i }
+counter (release_surface g answer) c exit h = λ i. record { registry = h.0 i; router = h.1.0 i }
+counter (release_all answer) c exit h = λ i. record { registry = h.0 i; router = h.1.0 i }
 
 entry : (x : InPlaceCall) (c exit : Counter) → HoldsTo x c exit
     → entry_for x ≡ entry_of (asked x) (step_for x c).answer
 unfolding stepped router_step releases_alone entries_of packed
 entry (step x answer) c exit h = ap (entry_of x) h.1
 entry (route e answer) c exit h = ap (route_entry e) h.2
-entry (release_surface_lem g answer) c exit h = ap (release_entry _) h.1.1
-entry (release_all_lem answer) c exit h = ap (release_entry _) h.1.1
+entry (release_surface g answer) c exit h = ap (release_entry _) h.1.1
+entry (release_all answer) c exit h = ap (release_entry _) h.1.1
 
 counters : (xs : List InPlaceCall) (c exit : Counter) → Leads xs c exit → exit ≡ after (map asked xs) c
 unfolding after

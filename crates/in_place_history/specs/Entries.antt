@@ -24,17 +24,17 @@ use Rattle.in_place.specs.EntryContracts.{StepInPlace, RouteInPlace, ReleaseSurf
 pub data InPlaceCall : Type 0 where
   step : Asked → Answer → InPlaceCall
   route : PlatformInputEvent → RouteAnswer → InPlaceCall
-  release_surface_lem : GenerationalHandle → ReleaseAnswer → InPlaceCall
-  release_all_lem : ReleaseAnswer → InPlaceCall
+  release_surface : GenerationalHandle → ReleaseAnswer → InPlaceCall
+  release_all : ReleaseAnswer → InPlaceCall
 
 -- the entry's contract, from the counter behind its references at entry to that at exit;
 -- a router release is not lent the registry, which stays
 abbrev pub HoldsTo : InPlaceCall → Counter → Counter → Type 0
 HoldsTo (step x answer) c exit = StepInPlace c x.call x.lists exit answer
 HoldsTo (route e answer) c exit = RouteInPlace c.registry c.router e exit.registry exit.router answer
-HoldsTo (release_surface_lem h answer) c exit =
+HoldsTo (release_surface h answer) c exit =
     (exit.registry ≡ c.registry) × ReleaseSurfaceInPlace c.router h exit.router answer
-HoldsTo (release_all_lem answer) c exit =
+HoldsTo (release_all answer) c exit =
     (exit.registry ≡ c.registry) × ReleaseAllInPlace c.router exit.router answer
 
 -- a list of calls from one counter to another: each entry is lent what the last one left behind
@@ -52,8 +52,8 @@ router_call call = record { call = Router call; lists = no_lists }
 abbrev pub asked : InPlaceCall → Asked
 asked (step x answer) = x
 asked (route e answer) = router_call (router.Route e)
-asked (release_surface_lem h answer) = router_call (router.ReleaseSurface h)
-asked (release_all_lem answer) = router_call router.ReleaseAll
+asked (release_surface h answer) = router_call (router.ReleaseSurface h)
+asked (release_all answer) = router_call router.ReleaseAll
 
 -- what the book is told of the answer of `route`, and the releases that it lists
 abbrev pub route_entry : PlatformInputEvent → RouteAnswer → Entry
@@ -80,5 +80,5 @@ release_entry call a = record {
 abbrev pub entry_for : InPlaceCall → Entry
 entry_for (step x answer) = entry_of x answer
 entry_for (route e answer) = route_entry e answer
-entry_for (release_surface_lem h answer) = release_entry (router.ReleaseSurface h) answer
-entry_for (release_all_lem answer) = release_entry router.ReleaseAll answer
+entry_for (release_surface h answer) = release_entry (router.ReleaseSurface h) answer
+entry_for (release_all answer) = release_entry router.ReleaseAll answer

@@ -1,17 +1,15 @@
 -- Each part holds by computing the history; the claim fails where the router holds, or lists, other presses than the book.
 use Prim.Native.Nat.{ℕ}
 use mathlib.Core.Path.{◌≡◌, refl, sym, ap, ◌∙◌, subst}
-use mathlib.Core.Bool.{Bool, true, false}
-use mathlib.Core.Logic.{◌⊎◌, inl, inr}
+use mathlib.Core.Bool.{true, false}
+use mathlib.Core.Logic.{inl, inr}
 use mathlib.Core.List.{List, [], ◌∷◌, ◌++◌}
-use mathlib.Core.Option.{Option, none, some}
+use mathlib.Core.Option.{some}
 use native.Mathlib.Omega.{arith}
 use lib.Dec.{eqb}
 use Rattle.lists.proofs.ListLaws.{clash}
 use Rattle.handles.specs.declared.GenerationalHandle.{GenerationalHandle}
 use Rattle.maps.specs.declared.bindings.Binding.{Binding}
-use Rattle.input_router.specs.Router.{presses_of}
-use Rattle.calls.specs.declared.call.Call.{Call}
 use Rattle.calls.specs.declared.call.Call.TheVariants.{Router}
 use Rattle.calls.specs.declared.call.RouterCall.TheVariants.{ReleaseSurface}
 use Rattle.input_events.specs.declared.event.PlatformInputPayload.TheVariants.{DeviceDisconnected}
@@ -70,9 +68,8 @@ use Rattle.history.specs.Histories.{Start, fresh, call, Entry, entry_of, after, 
 use Rattle.history.specs.Demand.{is_read, closed_in, ReleasedNext, CallPremises, NothingLost}
 use Rattle.history.proofs.HistoryLaws.{entry_there}
 use Rattle.history_examples.specs.Lists.{start_at, open_window, open_view, attach, capture, event, close, shutdown}
-use Rattle.history_examples.specs.Claims.{is_shutdown, is_released_next, are_released, books, pay_sheet, last_generation, shutdown_calls, last_revision_calls, last_generation_calls, unreleased_calls}
-use Rattle.history_examples.proofs.demand_3_examples.Statement.{statement}
-use Rattle.history_examples.proofs.demand_3_examples.Tie as tie
+use Rattle.history_examples.specs.Claims.{is_shutdown, is_released_next, are_released, books, pay_sheet, last_generation, last_revision_calls, unreleased_calls}
+use Rattle.history_examples.proofs.demand_3_examples.Goals as goal
 
 -- ---- the premises of a call
 premises : (e : Entry) (es : List Entry) → is_shutdown e.asked.call ≡ false → eqb e.told.number 21 ≡ false → eqb e.told.number 22 ≡ false → ReleasedNext (closed_in e) es → CallPremises e es
@@ -102,16 +99,13 @@ unlisted : (s : Start) (before : List Asked) (x : Asked) (y : Binding) (more : L
 unlisted s before x y more q o lost =
     none_is_some (sym q ∙ lost.listed (history before (fresh s)) (entry_of x (call (after before (fresh s)) x).answer) (history [] (call (after before (fresh s)) x).counter) (entry_there before x [] (fresh s)) ∙ o)
 
-returns : tie.Need-returns
+pub returns : goal.returns
 unfolding all_below count_below iter_below entries_of packed pushed empty_arena lookup_of has_room allocated released none_exhausted handles_below counts_within occurrences_of well_formed is_valid_metrics is_hit is_valid_geometry solved layer_lt records_of arenas_sound traces_sound layers_sound view_sound views_sound is_sound advanced fresh_registry update_view_metrics attached attach_surface update_surface_geometry update_surface_input_policy create_window is_window_in_use close_window create_view close_view by_panel in_panel_order add_captures capture_pointer_for release_pointer_for release_pointer device_captures device_cleared release_device_pointer_captures set_focus begin_ime end_ime suspend_view_input candidate_of is_less greatest own_view_refusal register_surface_system_shortcut_set resolve_system_shortcut shares_bit counts own_hits resolution_of alone walk_over concluded arbitrated decided_with decided verdict_of until_consumed consumer_of walk_of chosen is_targeted traced detached freed close_settled close_surface had_capture topmost detached_view close_report layer_closed layers_closed view_closed whole_view_closed views_closed window_closed windows_closed shut_down shutdown_of over written hits_among view_hits hit_numbers hit_test buffer_after arbitration_event_in needs_hits point_of is_loss is_disconnect payload_refusal header_refusal_in event_refusal press_in effect_in receiver_of is_router_sound release_surface release_all release_view routed_disconnect suspended_loss routed_loss route_refusal hits_for routed_arbitration routed_payload routed panel_step input_step shortcut_step read_step nothing_listed captures_listed close_listed shutdown_listed arbitration_alone releases_alone close_step router_step stepped home_of with_capture without_captures with_press without_press without_presses payload_change router_change change changed noted_panel noted_input noted_close registered noted note payload_concern router_concern concern panel_put panels_of panel_by_panel concerned_presses concerned_captures then_captures owed_presses owed_captures owed without_concerned after history book_after is_released_next are_released books
-returns c = record {
-  desk = record {
-    accepts = record { registry = refl; router = refl };
-    premises = (
-      premises _ _ refl refl refl tt,
-      (
-        premises _ _ refl refl refl tt,
-        (
+returns c =
+    record {
+      desk = record {
+        accepts = record { registry = refl; router = refl };
+        premises = (
           premises _ _ refl refl refl tt,
           (
             premises _ _ refl refl refl tt,
@@ -127,7 +121,13 @@ returns c = record {
                       premises _ _ refl refl refl tt,
                       (
                         premises _ _ refl refl refl tt,
-                        (closing pay_sheet _ _ _ _ refl refl refl refl refl refl, (premises _ _ refl refl refl tt, (premises _ _ refl refl refl tt, (premises _ _ refl refl refl tt, tt)))),
+                        (
+                          premises _ _ refl refl refl tt,
+                          (
+                            premises _ _ refl refl refl tt,
+                            (closing pay_sheet _ _ _ _ refl refl refl refl refl refl, (premises _ _ refl refl refl tt, (premises _ _ refl refl refl tt, (premises _ _ refl refl refl tt, tt)))),
+                          ),
+                        ),
                       ),
                     ),
                   ),
@@ -135,44 +135,39 @@ returns c = record {
               ),
             ),
           ),
-        ),
-      ),
-    );
-    are_met = refl;
-    answers = refl;
-    releases = refl;
-    presses = refl;
-    captures = refl;
-  };
-  needed = record {
-    shutdown_met = refl;
-    shutdown_answers = refl;
-    shutdown_fails = unlisted (start_at 5 1) (open_window ∷ open_view (handle_at 0 1) ∷ attach 1 0 ∷ capture (handle_at 0 1) 8 ∷ shutdown ∷ open_window ∷ open_view (handle_at 0 2) ∷ []) (event 2 1 DeviceDisconnected) _ _ refl refl;
-    last_revision_met = refl;
-    last_revision_answers = refl;
-    last_revision_fails = λ lost. none_is_some (lost.held last_revision_calls [] refl);
-    last_generation_met = refl;
-    last_generation_answers = refl;
-    last_generation_fails = unlisted (start_at 5 last_generation) (open_window ∷ open_view (handle_at 0 last_generation) ∷ attach last_generation 0 ∷ capture (handle_at 0 last_generation) 8 ∷ close (handle_at 0 last_generation) ∷ []) (event last_generation 1 DeviceDisconnected) _ _ refl refl;
-    unreleased_met = refl;
-    unreleased_answers = refl;
-    unreleased_fails = λ lost. one_is_two (lost.held unreleased_calls [] refl);
-  };
-  others = record {
-    disconnect_forgets = refl;
-    all_forgets = refl;
-    close_ends = (
-      premises _ _ refl refl refl tt,
-      (
-        premises _ _ refl refl refl tt,
-        (
+        );
+        are_met = refl;
+        answers = refl;
+        releases = refl;
+        presses = refl;
+        captures = refl;
+      };
+      needed = record {
+        shutdown_met = refl;
+        shutdown_answers = refl;
+        shutdown_fails = unlisted (start_at 5 1) (open_window ∷ open_view (handle_at 0 1) ∷ attach 1 0 ∷ capture (handle_at 0 1) 8 ∷ shutdown ∷ open_window ∷ open_view (handle_at 0 2) ∷ []) (event 2 1 DeviceDisconnected) _ _ refl refl;
+        last_revision_met = refl;
+        last_revision_answers = refl;
+        last_revision_fails = λ lost. none_is_some (lost.held last_revision_calls [] refl);
+        last_generation_met = refl;
+        last_generation_answers = refl;
+        last_generation_fails = unlisted (start_at 5 last_generation) (open_window ∷ open_view (handle_at 0 last_generation) ∷ attach last_generation 0 ∷ capture (handle_at 0 last_generation) 8 ∷ close (handle_at 0 last_generation) ∷ []) (event last_generation 1 DeviceDisconnected) _ _ refl refl;
+        unreleased_met = refl;
+        unreleased_answers = refl;
+        unreleased_fails = λ lost. one_is_two (lost.held unreleased_calls [] refl);
+      };
+      others = record {
+        disconnect_forgets = refl;
+        all_forgets = refl;
+        close_ends = (
           premises _ _ refl refl refl tt,
-          (premises _ _ refl refl refl tt, (premises _ _ refl refl refl tt, tt)),
-        ),
-      ),
-    );
-  };
-}
-
-pub demand_3_examples_spec : {M : Type 1} → statement M
-demand_3_examples_spec = tie.close (tie.spec returns)
+          (
+            premises _ _ refl refl refl tt,
+            (
+              premises _ _ refl refl refl tt,
+              (premises _ _ refl refl refl tt, (premises _ _ refl refl refl tt, tt)),
+            ),
+          ),
+        );
+      };
+    }
