@@ -3,12 +3,8 @@ use mathlib.Core.Path.{refl}
 use Rattle.lists.specs.Tables.{entries_of, packed}
 use Rattle.answer_text.specs.Digests.{mix_a, mix_b, digest_of}
 use Rattle.answer_numbers.specs.Numbers.{each}
-use Rattle.router_dump.proofs.router.router_claims.Statement.{statement}
-use Rattle.router_dump.proofs.router.router_claims.Tie as tie
+use Rattle.router_dump.proofs.router.router_claims.Goals as goal
 
-returns : tie.Need-returns
+pub returns : goal.returns
 unfolding entries_of packed mix_a mix_b digest_of each
 returns c = record { first_dump = refl; first_digest = refl }
-
-pub router_claims_spec : {M : Type 1} → statement M
-router_claims_spec = tie.close (tie.spec returns)
