@@ -1,16 +1,11 @@
 -- `event_from` meets its contract: each key's event is the one at its place, and any other number is 0 or past the list.
-use Prim.Native.Nat.{ℕ, ◌+◌, ◌≤◌}
-use mathlib.Core.Path.{◌≡◌, refl}
+use mathlib.Core.Path.{refl}
 use mathlib.Core.Logic.{⊎_elim}
 use native.Mathlib.Nat.{eq-zero-or-pos}
 use native.Mathlib.Omega.{arith}
 use Rattle.lists.proofs.ListLaws.{past_get}
 use Rattle.counter_memory.specs.Events.{events}
 use Rattle.counter_memory.proofs.events.event_from.Goals as goal
-
--- a number that is none of the ten keys, and not 0, is past the list
-above : {n k : ℕ} → n ≤ k → (k ≡ n → ⊥) → n + 1 ≤ k
-above h other = omega arith
 
 pub returns-in-2 : goal.returns-in-2
 returns-in-2 c = rw c.in-2.is
@@ -30,9 +25,7 @@ returns-in-10 c = rw c.in-10.is
 pub returns-in_default : goal.returns-in_default
 returns-in_default c =
     let a = c.args in
-    let others = c.in_default.in_default-own.rest in
     ⊎_elim
     (λ zero. rw zero)
-    (λ more. past_get (events a.pointer a.target a.class_mask) a.kind 11 _ refl
-    (above (above (above (above (above (above (above (above (above (above more others.0.0.0.0.0.0.0.0.0.1) others.0.0.0.0.0.0.0.0.1) others.0.0.0.0.0.0.0.1) others.0.0.0.0.0.0.1) others.0.0.0.0.0.1) others.0.0.0.0.1) others.0.0.0.1) others.0.0.1) others.0.1) others.1))
+    (λ more. past_get (events a.pointer a.target a.class_mask) a.kind 11 _ refl (omega arith))
     (eq-zero-or-pos a.kind)
