@@ -1,0 +1,11 @@
+-- `surfaces::records_memory` meets its contract: each turn fills one place.
+use Prim.Native.Nat.{◌-◌}
+use Rattle.counter_memory.specs.Surfaces.{surface_memory}
+use Rattle.counter_memory.proofs.FillLaws.{Filled}
+use Rattle.counter_memory.proofs.surfaces.records_memory.Given as goal
+
+abbrev pub invariant-loop-i : goal.invariant-loop-i
+invariant-loop-i l = Filled surface_memory 64 l.records l.i l.memory
+
+abbrev pub decreases-loop-i : goal.decreases-loop-i
+decreases-loop-i l = 64 - l.i

@@ -1,0 +1,15 @@
+-- `views::records_memory` meets its contract: each turn fills one place.
+use mathlib.Core.Path.{refl}
+use native.Mathlib.Omega.{arith}
+use Rattle.counter_memory.specs.Views.{view_memory}
+use Rattle.counter_memory.proofs.FillLaws.{fill_start, fill_turn, fill_end}
+use Rattle.counter_memory.proofs.views.records_memory.Goals as goal
+
+pub loop-i-init : goal.loop-i-init
+loop-i-init c = fill_start view_memory c.well_formed.0.1.0.1 refl
+
+pub loop-i-preserved : goal.loop-i-preserved
+loop-i-preserved c = fill_turn view_memory _ c.loop-i.invariant (omega arith) c.view_memory.ensures
+
+pub returns : goal.returns
+returns c = fill_end view_memory c.loop-i.invariant (omega arith)
