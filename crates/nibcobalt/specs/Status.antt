@@ -1,6 +1,6 @@
 -- What a function of the library answers: 0 or the number of why nothing was done, and how many bytes of the lent
 -- buffer are the answer.
-use Rattle.std.specs.Prelude.{ℕ, Bool, cond, List, ltb, length}
+use Rattle.std.specs.Prelude.{ℕ, Bool, cond, ltb}
 use Rattle.nibcobalt.specs.declared.status.Status.{Status}
 
 -- a status without an answer

@@ -13,7 +13,9 @@ ghost use Rattle.replay.specs.Turns.{Held, serving_of, held_of, held_in, chunk_s
 
 use crate::lines::{answer_bytes, first_session, next_answer};
 use crate::session::Session;
-use libc::{STDIN_FILENO, STDOUT_FILENO};
+use script::words::same_bytes;
+use std::env::{Env, FillError};
+use std::io::{self, Eprint, Input, Read};
 
 // How many lines have ended, and whether every answer so far could be written.
 #[derive(Clone, Copy)]
@@ -47,6 +49,7 @@ fn next_line(lines: u64) -> u64 {
 
 // Writes the answer that stands in the first `at` bytes of a buffer, for a line of `len` bytes that has ended.
 fn write_answer(
+    rt: &(impl Print + Eprint),
     told: Told,
     has_ended: bool,
     out: &[u8],
@@ -65,9 +68,9 @@ fn write_answer(
         };
     }
     if messages::is_no_call(out) {
-        messages::tell_fault(lines, line, len);
+        messages::tell_fault(rt, lines, line, len);
     }
-    if messages::write_front(STDOUT_FILENO, out, at) {
+    if messages::write_front(rt, out, at) {
         return Told {
             lines,
             is_written: told.is_written,
@@ -80,7 +83,13 @@ fn write_answer(
 }
 
 // Answers each line that a chunk completes: the loop itself does nothing but write.
-fn answer_chunk(reading: Reading, chunk: &[u8], line: &mut [u8], out: &mut [u8]) -> Reading
+fn answer_chunk(
+    rt: &(impl Print + Eprint),
+    reading: Reading,
+    chunk: &[u8],
+    line: &mut [u8],
+    out: &mut [u8],
+) -> Reading
     requires { 524288 ≤ length out.old }
     ensures { ◌≡◌ {A = Held} (held_of result.session line.new result.len out.new)
         (held_in (chunk_served (serving_of reading.session line.old reading.len out.old [])
@@ -92,7 +101,7 @@ fn answer_chunk(reading: Reading, chunk: &[u8], line: &mut [u8], out: &mut [u8])
     let mut at = 0;
     while at < chunk.len() {
         let turn = next_answer(session, len, line, chunk, at, out);
-        told = write_answer(told, turn.has_ended, out, turn.at, line, turn.ended_len);
+        told = write_answer(rt, told, turn.has_ended, out, turn.at, line, turn.ended_len);
         session = turn.session;
         len = turn.len;
         at = turn.next;
@@ -101,24 +110,29 @@ fn answer_chunk(reading: Reading, chunk: &[u8], line: &mut [u8], out: &mut [u8])
 }
 
 // Reads once and answers the lines that are complete, so that each is answered before more is read.
-fn serve_some(reading: Reading, line: &mut [u8], out: &mut [u8]) -> Served
+fn serve_some<R: Read>(
+    rt: &(impl Print + Eprint),
+    input: &mut R,
+    reading: Reading,
+    line: &mut [u8],
+    out: &mut [u8],
+) -> io::Result<Served>
     requires { 524288 ≤ length out.old }
 {
-    let mut chunk = io::large_buffer();
-    let got = libc::read(STDIN_FILENO, &mut chunk);
-    if got <= 0 {
-        return Served {
+    let mut chunk = [0u8; 65536];
+    let n = input.read(&mut chunk)?;
+    if n == 0 {
+        return Ok(Served {
             reading,
             is_open: false,
-        };
+        });
     }
-    let n = io::count(got, &chunk);
-    let next = answer_chunk(reading, &chunk[..n], line, out);
+    let next = answer_chunk(rt, reading, &chunk[..n], line, out);
     let told = next.told;
-    Served {
+    Ok(Served {
         reading: next,
         is_open: told.is_written,
-    }
+    })
 }
 
 // Nothing is read yet.
@@ -137,33 +151,37 @@ fn first_reading() -> Reading {
 
 // Serves the input to its end. A proved loop has to end, so this one counts its turns down from a number that no run
 // uses up. A last line that no line feed ends is a line too.
-fn serve(line: &mut [u8], out: &mut [u8])
+fn serve(rt: &(impl Input + Print + Eprint), line: &mut [u8], out: &mut [u8]) -> io::Result<()>
     requires { 524288 ≤ length out.old }
 {
+    let mut input = rt.reader();
     let mut reading = first_reading();
     let mut is_open = true;
     let mut turns = u64::MAX;
     while turns > 0 && is_open {
-        let served = serve_some(reading, line, out);
+        let served = serve_some(rt, &mut input, reading, line, out)?;
         reading = served.reading;
         is_open = served.is_open;
         turns -= 1;
     }
     let last = answer_bytes(reading.session, line, reading.len, out);
-    let told = write_answer(reading.told, true, out, last.at, line, reading.len);
-    if told.is_written {} else {
-        messages::tell_unwritten();
+    let told = write_answer(rt, reading.told, true, out, last.at, line, reading.len);
+    if told.is_written {
+        return Ok(());
     }
+    messages::tell_unwritten(rt)
 }
 
 // Every line fits the buffer: no answer is longer than 419,862 bytes (`line_lengths::line_length_claims`), and
 // `answer_bytes` requires the room.
-fn main() {
-    if os::arg_count() > 1 {
-        messages::tell_usage();
-        return;
+fn main(rt: HostRuntime) -> io::Result<()> {
+    let mut word = [0u8; 8];
+    match rt.arg(1, &mut word) {
+        Ok(n) => return messages::tell_usage(&rt, same_bytes(&word[..n], b"--help")),
+        Err(FillError::TooLong) => return messages::tell_usage(&rt, false),
+        Err(FillError::NotPresent) => {}
     }
     let mut line = [0u8; 4097];
     let mut out = [0u8; 524288];
-    serve(&mut line, &mut out);
+    serve(&rt, &mut line, &mut out)
 }

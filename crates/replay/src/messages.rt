@@ -1,13 +1,11 @@
 // What the program writes beside its answers: why a line is no call, how the program is used, that it could not write.
-use answer_text::put::{put_bytes, put_u64};
-use libc::{STDERR_FILENO, STDOUT_FILENO};
 use script::fault::{LineFault, fault_of};
-use script::words::same_bytes;
+use std::io::{self, Eprint};
 
 // Writes the first `len` bytes of a buffer, and says whether they are written.
-pub fn write_front(fd: i32, out: &[u8], len: usize) -> bool {
+pub fn write_front(rt: &impl Print, out: &[u8], len: usize) -> bool {
     if len <= out.len() {
-        return io::write_all(fd, &out[..len]);
+        return rt.write_all(&out[..len]).is_ok();
     }
     false
 }
@@ -34,45 +32,32 @@ fn fault_in(line: &[u8], len: usize) -> LineFault {
 }
 
 // A line with a verb and numbers is no call only if its numbers are not those that the verb asks for.
-fn put_reason(text: &mut [u8], at: usize, fault: LineFault) -> usize {
+fn reason(fault: LineFault) -> &'static str {
     match fault {
-        LineFault::LongLine => put_bytes(text, at, b": longer than 4,096 bytes\n"),
-        LineFault::UnknownVerb => put_bytes(text, at, b": unknown verb\n"),
-        LineFault::MalformedNumber => put_bytes(text, at, b": malformed number\n"),
-        LineFault::None => put_bytes(
-            text,
-            at,
-            b": wrong number of fields, or a number out of its range\n",
-        ),
+        LineFault::LongLine => "longer than 4,096 bytes",
+        LineFault::UnknownVerb => "unknown verb",
+        LineFault::MalformedNumber => "malformed number",
+        LineFault::None => "wrong number of fields, or a number out of its range",
     }
 }
 
-// Says on standard error why the first `len` bytes of a buffer, a line of the input by its number, are no call.
-pub fn tell_fault(number: u64, line: &[u8], len: usize) {
-    let mut text = [0u8; 96];
-    let named = put_bytes(&mut text, 0, b"replay: line ");
-    let numbered = put_u64(&mut text, named, number);
-    let reasoned = put_reason(&mut text, numbered, fault_in(line, len));
-    write_front(STDERR_FILENO, &text, reasoned);
+// Says on standard error why the first `len` bytes of a buffer, a line of the input by its number, are no call. Where
+// that cannot be written the answers go on.
+pub fn tell_fault(rt: &impl Eprint, number: u64, line: &[u8], len: usize) {
+    let reason = reason(fault_in(line, len));
+    let _is_told = eprintln!(rt; "replay: line {number}: {reason}").is_ok();
 }
 
-pub fn tell_unwritten() {
-    io::write_all(STDERR_FILENO, b"replay: the answers could not be written\n");
+pub fn tell_unwritten(rt: &impl Eprint) -> io::Result<()> {
+    eprintln!(rt; "replay: the answers could not be written")
 }
 
 // One line on how the program is used: on standard output where it is asked for, and else on standard error.
-fn write_usage(fd: i32) {
-    io::write_all(
-        fd,
-        b"usage: replay < SCRIPT   (calls from standard input, one a line; docs/REPLAY.md has the format)\n",
-    );
-}
-
-pub fn tell_usage() {
-    let mut word = [0u8; 8];
-    let n = os::arg(1, &mut word);
-    if same_bytes(&word[..n], b"--help") {
-        return write_usage(STDOUT_FILENO);
+pub fn tell_usage(rt: &(impl Print + Eprint), is_asked: bool) -> io::Result<()> {
+    let usage =
+        "usage: replay < SCRIPT   (calls from standard input, one a line; docs/REPLAY.md has the format)";
+    if is_asked {
+        return println!(rt; "{usage}");
     }
-    write_usage(STDERR_FILENO)
+    eprintln!(rt; "{usage}")
 }
