@@ -1,12 +1,12 @@
 -- How many numbers a dump has at most, from the lengths of the arrays: arena by arena, whatever the numbers in them.
-use Prim.Native.Nat.{ℕ, zero, suc, ◌+◌, ◌*◌, ◌≤◌, ◌<◌}
-use mathlib.Core.Bool.{Bool, true, false, cond}
-use mathlib.Core.List.{List, [], ◌∷◌, ◌++◌, append-nil}
+use Prim.Native.Nat.{ℕ, zero, suc, ◌+◌, ◌*◌, ◌≤◌}
+use mathlib.Core.Bool.{Bool}
+use mathlib.Core.List.{List, [], ◌∷◌, append-nil}
 use mathlib.Core.Path.{◌≡◌, refl}
 use native.Mathlib.Omega.{arith}
 use lib.Dec.{eqb, ltb}
 use lib.ListN.{length, get_or, length-append, length-take}
-use borrow.Author.Tests.{eqb-true, eqb-false, ltb-true, ltb-false, lt-ltb, le-ltb, ne_eqb}
+use borrow.Author.Tests.{eqb-true, ltb-true, lt-ltb, le-ltb}
 use Rattle.lists.specs.Lists.{keep}
 use Rattle.lists.specs.Tables.{entries_of, packed}
 use Rattle.lists.proofs.ListLaws.{by_test, length_keep}
@@ -31,8 +31,6 @@ use Rattle.records.specs.declared.shortcut.SlotShortcut.{SlotShortcut}
 use Rattle.records.specs.declared.surface.SurfaceTable.{SurfaceTable}
 use Rattle.records.specs.declared.view.ViewRecord.{ViewRecord}
 use Rattle.records.specs.declared.view.ViewTable.{ViewTable}
-use Rattle.composition_state.specs.declared.registry.CompositionRegistry.{CompositionRegistry}
-use Rattle.input_router.specs.declared.router.PlatformInputRouter.{PlatformInputRouter}
 use Rattle.counter.specs.declared.step.Counter.{Counter}
 use Rattle.answer_numbers.specs.Groups.{handle_numbers, capture_numbers, descriptor_numbers}
 use Rattle.answer_numbers.specs.Numbers.{Number, each, indices}

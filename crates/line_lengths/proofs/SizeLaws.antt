@@ -3,7 +3,7 @@ use Prim.Native.Nat.{ℕ, ◌+◌, ◌*◌, ◌≤◌}
 use mathlib.Core.Bool.{Bool, true, false}
 use mathlib.Core.List.{List, [], ◌∷◌, ◌++◌, flatten}
 use mathlib.Core.Option.{Option, none, some}
-use mathlib.Core.Path.{◌≡◌, refl, ◌∙◌}
+use mathlib.Core.Path.{◌≡◌}
 use native.Mathlib.Omega.{arith}
 use lib.Dec.{eqb}
 use lib.IntN.{pos, nat_abs}
@@ -11,7 +11,6 @@ use lib.ListN.{length, length-append}
 use lib.Signed.{lt_z}
 use Rattle.lists.specs.Tables.{entries_of}
 use Rattle.lists.proofs.ListLaws.{by_test}
-use Rattle.handles.specs.declared.GenerationalHandle.{GenerationalHandle}
 use Rattle.handles.specs.declared.OptionalHandle.{OptionalHandle}
 use Rattle.handles.specs.declared.OptionalHandle.TheVariants as O
 use Rattle.maps.specs.declared.bindings.Binding.{Binding}

@@ -1,5 +1,5 @@
 -- The replay format, Answer line: each line as one text, made of the pieces that it is put as.
-use Rattle.std.specs.Prelude.{ℕ, Bool, cond, ℤ, pos, nat_abs}
+use Rattle.std.specs.Prelude.{ℕ, Bool, cond, pos, nat_abs}
 use mathlib.Core.List.{List, [], ◌∷◌, ◌++◌, flatten}
 use Rattle.std.proofs.Math.Option.{Option, none, some}
 use Rattle.std.specs.Int.Signed.{lt_z}
