@@ -1,5 +1,5 @@
-// The exported functions. Each is a function of the modules beside this one with its states lent; what stands behind
-// the references at exit, and the answer, are that function's.
+// The library's functions on lent memory, which the crate `nibcobalt_c` exports. Each is a function of the modules beside
+// this one with its states lent; what stands behind the references at exit, and the answer, are that function's.
 ghost use Rattle.std.specs.Prelude.{◌≡◌};
 ghost use Rattle.nibcobalt.specs.Fresh.{started_memory};
 ghost use Rattle.nibcobalt.specs.Calls.{called};
@@ -13,8 +13,7 @@ use counter_memory::memory::CounterMemory;
 use host_message::message::Message;
 
 // A fresh counter. A refusal's number is one of REFUSALS.md, and leaves the memory as it was.
-#[unsafe(no_mangle)]
-pub extern "C" fn nibcobalt_start_counter(counter: &mut CounterMemory, start: &mut Start) -> Status
+pub fn nibcobalt_start_counter(counter: &mut CounterMemory, start: &mut Start) -> Status
     ensures { (counter.new ≡ (started_memory counter.old start.old).memory)
         × (start.new ≡ (started_memory counter.old start.old).start)
         × (result ≡ (started_memory counter.old start.old).status) }
@@ -26,8 +25,7 @@ pub extern "C" fn nibcobalt_start_counter(counter: &mut CounterMemory, start: &m
 }
 
 // Any call, answered in a lent buffer.
-#[unsafe(no_mangle)]
-pub extern "C" fn nibcobalt_call(
+pub fn nibcobalt_call(
     counter: &mut CounterMemory,
     message: &mut Message,
     answer: &mut [u8],
@@ -45,8 +43,7 @@ pub extern "C" fn nibcobalt_call(
 }
 
 // `route` alone.
-#[unsafe(no_mangle)]
-pub extern "C" fn nibcobalt_route(
+pub fn nibcobalt_route(
     counter: &mut CounterMemory,
     message: &mut RouteMessage,
     answer: &mut [u8],

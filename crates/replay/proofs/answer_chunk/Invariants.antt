@@ -1,0 +1,18 @@
+-- `answer_chunk` meets its contract: after each turn the turns that are left lead where those of the whole chunk lead.
+use Prim.Native.Nat.{ℕ, ◌-◌, ◌<◌}
+use mathlib.Core.List.{List, []}
+use mathlib.Core.Path.{◌≡◌, refl}
+use native.Mathlib.Omega.{arith}
+use lib.ListN.{length}
+use borrow.Author.Rules.{rules}
+use Rattle.line_input.specs.LineInput.{next_place}
+use Rattle.line_input.proofs.InputLaws.{advances}
+use Rattle.replay.specs.Turns.{serving_of}
+use Rattle.replay.proofs.LoopLaws.{Leads, leads_start, leads_turn, leads_done}
+use Rattle.replay.proofs.answer_chunk.Given as goal
+
+abbrev pub invariant-loop-at : goal.invariant-loop-at
+invariant-loop-at g l = (length l.line ≡ length l.initial.line) × ((length l.out ≡ length l.initial.out) × Leads (serving_of l.initial.session l.initial.line l.initial.len l.initial.out []) l.chunk l.session l.line l.len l.out l.at)
+
+abbrev pub decreases-loop-at : goal.decreases-loop-at
+decreases-loop-at g l = length l.chunk - l.at
