@@ -2,7 +2,7 @@
  *
  * A host owns one nibcobalt_counter for each counter that it runs, a message in which it hands in calls as numbers,
  * and a buffer in which they are answered. docs/HOSTING.md has the numbers of every call and of every answer. Link
- * with libnibcobalt.a, which `rt staticlib nibcobalt` writes; host/install copies both to a prefix.
+ * with libnibcobalt.a, which host/library writes; host/install copies both to a prefix.
  *
  * What a host must hold to:
  * - The memory of a counter is zeroed before its first start, and only the functions write to it. Flags in it are 0

@@ -1,19 +1,17 @@
 -- The turns over chunks are a fold over the bytes, and that is the fold over the lines: nothing depends on where a chunk ends.
-use Prim.Native.Nat.{ℕ, zero, suc, ◌+◌, ◌-◌, ◌≤◌, ◌<◌}
+use Prim.Native.Nat.{ℕ, zero, suc, ◌+◌, ◌≤◌, ◌<◌}
 use mathlib.Core.Bool.{true, false, cond}
 use mathlib.Core.List.{List, [], ◌∷◌, ◌++◌, foldl, foldl-append, append_assoc, append-nil}
 use mathlib.Core.Path.{◌≡◌, refl, sym, ap, ◌∙◌}
-use native.Mathlib.Nat.{le_refl}
 use native.Mathlib.Omega.{arith}
 use lib.Dec.{eqb, ltb}
-use lib.ListN.{length, take, drop, length-drop, drop_of_length-le}
+use lib.ListN.{length, drop, length-drop, drop_of_length-le}
 use lib.Seq.{drop-drop}
 use borrow.Author.Tests.{eqb-true, ltb-true, ltb-false}
 use Rattle.lists.proofs.ListLaws.{by_test}
 use Rattle.script.specs.Words.{up_to}
 use Rattle.line_input.specs.LineInput.{line_in, line_taken, is_complete, next_place}
 use Rattle.line_input.proofs.InputLaws.{advances}
-use Rattle.replay.specs.declared.session.Session.{Session}
 use Rattle.replay.specs.Replay.{Replay, line_replayed, lines_from, replayed}
 use Rattle.replay.specs.Turns.{Serving, serving_of, after_bytes, turned, turns, chunk_served, ended}
 use Rattle.replay.specs.Claims.{together, ReplayClaims}

@@ -10,7 +10,7 @@ use lib.Seq.{take_all, take-append_seam, length-take-le}
 use borrow.Author.Tests.{le-leb, lt-leb, leb-true, leb-false, ne_eqb}
 use Rattle.lists.proofs.ListLaws.{by_test}
 use Rattle.script.specs.Lines.{line_of, is_skipped}
-use Rattle.answer_text.specs.Put.{over, put}
+use Rattle.answer_text.specs.Put.{put}
 use Rattle.answer_text.proofs.PutLaws.{put_yes}
 use Rattle.replay.specs.Replay.{Replay, line_answered, line_replayed}
 

@@ -1,15 +1,13 @@
 -- A loop over a chunk: after each turn the turns that are left lead where those of the whole chunk lead.
 use Prim.Native.Nat.{ℕ, zero, suc, ◌+◌, ◌≤◌, ◌<◌}
-use mathlib.Core.Bool.{true}
 use mathlib.Core.List.{List, [], ◌++◌}
 use mathlib.Core.Path.{◌≡◌, refl, sym, ap, ◌∙◌}
 use native.Mathlib.Omega.{arith}
 use lib.Dec.{ltb}
 use lib.ListN.{length}
-use borrow.Author.Tests.{lt-ltb, ltb-true, ltb-false, le-ltb}
+use borrow.Author.Tests.{lt-ltb, le-ltb}
 use Rattle.lists.proofs.ListLaws.{by_test}
 use Rattle.line_input.specs.LineInput.{next_place}
-use Rattle.line_input.proofs.InputLaws.{advances}
 use Rattle.replay.specs.declared.session.Session.{Session}
 use Rattle.replay.specs.Turns.{Serving, serving_of, held_of, held_in, turned, turns, chunk_served, IsTurn}
 use Rattle.replay.proofs.FoldLaws.{turns_more, turns_done, fewer}

@@ -1,8 +1,8 @@
 -- A line is answered by its whole text, by the claims of each kind of line: its pieces all fit the buffer.
 use Prim.Native.Nat.{ℕ, ◌≤◌}
-use mathlib.Core.Bool.{Bool, true, false}
+use mathlib.Core.Bool.{Bool}
 use mathlib.Core.List.{List}
-use mathlib.Core.Path.{◌≡◌, refl, ap, ◌∙◌}
+use mathlib.Core.Path.{◌≡◌, ap, ◌∙◌}
 use lib.ListN.{length}
 use mir.Val.{Val}
 use denote.Laws.{Is}

@@ -1,8 +1,8 @@
 -- One turn by what the calls in it answer: the line that was taken, whether it is complete, and its answer.
 use Prim.Native.Nat.{ℕ}
 use mathlib.Core.Bool.{Bool, true, false}
-use mathlib.Core.List.{List, [], ◌++◌, append-nil}
-use mathlib.Core.Path.{◌≡◌, sym, ap, ◌∙◌}
+use mathlib.Core.List.{List, ◌++◌, append-nil}
+use mathlib.Core.Path.{◌≡◌, ap, ◌∙◌}
 use lib.ListN.{take}
 use Rattle.script.specs.Lines.{line_of, is_skipped}
 use Rattle.line_input.specs.LineInput.{line_taken, is_complete}

@@ -3,7 +3,7 @@ use Rattle.std.specs.Prelude.{ℕ, ◌≤◌, ◌≡◌, length}
 use mathlib.Core.List.{List, [], ◌++◌, foldl, foldr}
 use Rattle.replay.specs.declared.session.Session.{Session}
 use Rattle.replay.specs.Replay.{replayed}
-use Rattle.replay.specs.Turns.{Serving, serving_of, chunk_served, ended}
+use Rattle.replay.specs.Turns.{serving_of, chunk_served, ended}
 
 -- chunks one after the other
 abbrev pub together : List (List ℕ) → List ℕ

@@ -172,6 +172,11 @@ fn serve(rt: &(impl Input + Print + Eprint), line: &mut [u8], out: &mut [u8]) ->
     messages::tell_unwritten(rt)
 }
 
+// A buffer that a whole answer line fits.
+fn answer_buffer() -> [u8; 524288] {
+    [0; 524288]
+}
+
 // Every line fits the buffer: no answer is longer than 419,862 bytes (`line_lengths::line_length_claims`), and
 // `answer_bytes` requires the room.
 fn main(rt: HostRuntime) -> io::Result<()> {
@@ -182,6 +187,6 @@ fn main(rt: HostRuntime) -> io::Result<()> {
         Err(FillError::NotPresent) => {}
     }
     let mut line = [0u8; 4097];
-    let mut out = [0u8; 524288];
+    let mut out = answer_buffer();
     serve(&rt, &mut line, &mut out)
 }

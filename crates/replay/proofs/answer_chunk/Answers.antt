@@ -1,14 +1,13 @@
 -- `answer_chunk` meets its contract: after each turn the turns that are left lead where those of the whole chunk lead.
 use Prim.Native.Nat.{ℕ, ◌-◌, ◌<◌}
-use mathlib.Core.List.{List, []}
+use mathlib.Core.List.{List}
 use mathlib.Core.Path.{◌≡◌, refl}
 use native.Mathlib.Omega.{arith}
 use lib.ListN.{length}
 use borrow.Author.Rules.{rules}
 use Rattle.line_input.specs.LineInput.{next_place}
 use Rattle.line_input.proofs.InputLaws.{advances}
-use Rattle.replay.specs.Turns.{serving_of}
-use Rattle.replay.proofs.LoopLaws.{Leads, leads_start, leads_turn, leads_done}
+use Rattle.replay.proofs.LoopLaws.{leads_start, leads_turn, leads_done}
 use Rattle.replay.proofs.answer_chunk.Goals as goal
 
 -- the place after a line is further on

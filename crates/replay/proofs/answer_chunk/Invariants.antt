@@ -1,14 +1,10 @@
 -- `answer_chunk` meets its contract: after each turn the turns that are left lead where those of the whole chunk lead.
-use Prim.Native.Nat.{ℕ, ◌-◌, ◌<◌}
-use mathlib.Core.List.{List, []}
-use mathlib.Core.Path.{◌≡◌, refl}
-use native.Mathlib.Omega.{arith}
+use Prim.Native.Nat.{◌-◌}
+use mathlib.Core.List.{[]}
+use mathlib.Core.Path.{◌≡◌}
 use lib.ListN.{length}
-use borrow.Author.Rules.{rules}
-use Rattle.line_input.specs.LineInput.{next_place}
-use Rattle.line_input.proofs.InputLaws.{advances}
 use Rattle.replay.specs.Turns.{serving_of}
-use Rattle.replay.proofs.LoopLaws.{Leads, leads_start, leads_turn, leads_done}
+use Rattle.replay.proofs.LoopLaws.{Leads}
 use Rattle.replay.proofs.answer_chunk.Given as goal
 
 abbrev pub invariant-loop-at : goal.invariant-loop-at

@@ -1,7 +1,6 @@
 -- `serve` is safe and ends: each turn leaves one turn less.
-use mathlib.Core.Path.{◌≡◌, refl}
+use mathlib.Core.Path.{◌≡◌}
 use lib.ListN.{length}
-use borrow.Author.Rules.{rules}
 use Rattle.replay.proofs.serve.Given as goal
 
 abbrev pub invariant-loop-turns : goal.invariant-loop-turns

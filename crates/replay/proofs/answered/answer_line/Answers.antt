@@ -1,5 +1,4 @@
 -- `answer_line` meets its contract: the line is read as a call with its lists, counted, and answered.
-use borrow.Author.Rules.{rules}
 use Rattle.replay.specs.Lines.{answered_line}
 use Rattle.replay.proofs.answered.answer_line.Goals as goal
 

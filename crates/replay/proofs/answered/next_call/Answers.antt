@@ -1,5 +1,4 @@
 -- `next_call` counts one call more, and stays at its end: by the test.
-use borrow.Author.Rules.{rules}
 use borrow.Author.Tests.{lt-ltb, le-ltb}
 use Rattle.replay.proofs.answered.next_call.Goals as goal
 

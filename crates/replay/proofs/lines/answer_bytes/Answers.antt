@@ -1,7 +1,6 @@
 -- `answer_bytes` meets its contract: a line that is skipped has no answer, and any other that of `answer_line`; both are whole
 -- texts, by the lengths that the session's type fixes.
 use mathlib.Core.Path.{sym, ◌∙◌}
-use borrow.Author.Rules.{rules}
 use Rattle.replay.proofs.TextLaws.{answered_whole}
 use Rattle.replay.proofs.TurnLaws.{answered_skipped, answered_asked}
 use Rattle.replay.proofs.lines.answer_bytes.Goals as goal

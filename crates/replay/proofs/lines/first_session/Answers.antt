@@ -1,5 +1,4 @@
 -- `first_session` meets its contract: the first counter, and nothing answered.
-use borrow.Author.Rules.{rules}
 use Rattle.replay.specs.Replay.{first_session}
 use Rattle.replay.proofs.lines.first_session.Goals as goal
 

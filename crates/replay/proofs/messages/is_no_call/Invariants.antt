@@ -1,7 +1,5 @@
 -- `is_no_call` is safe and ends: it looks at no more than 21 places, each within the answer.
 use Prim.Native.Nat.{◌≤◌, ◌-◌}
-use native.Mathlib.Omega.{arith}
-use borrow.Author.Rules.{rules}
 use Rattle.replay.proofs.messages.is_no_call.Given as goal
 
 abbrev pub invariant-loop-i : goal.invariant-loop-i

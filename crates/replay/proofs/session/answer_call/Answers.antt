@@ -1,6 +1,5 @@
 -- `answer_call` meets its contract: each case is answered by its function.
 use Rattle.replay.specs.Sessions.{answered_as}
-use borrow.Author.Rules.{rules}
 use Rattle.replay.proofs.session.answer_call.Goals as goal
 
 pub returns-in-NoCall : goal.returns-in-NoCall

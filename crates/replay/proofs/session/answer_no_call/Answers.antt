@@ -1,7 +1,6 @@
 -- `answer_no_call` meets its contract: the columns are put, then the end.
 use mathlib.Core.Path.{ap, ◌∙◌}
 use Rattle.replay.specs.Sessions.{finished, answered_no_call}
-use borrow.Author.Rules.{rules}
 use Rattle.replay.proofs.session.answer_no_call.Goals as goal
 
 pub returns : goal.returns

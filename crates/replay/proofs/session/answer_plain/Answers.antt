@@ -1,7 +1,6 @@
 -- `answer_plain` meets its contract: the columns are put, then the end.
 use mathlib.Core.Path.{ap, ◌∙◌}
 use Rattle.replay.specs.Sessions.{finished, answered_plain}
-use borrow.Author.Rules.{rules}
 use Rattle.replay.proofs.session.answer_plain.Goals as goal
 
 pub returns : goal.returns

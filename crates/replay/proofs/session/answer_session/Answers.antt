@@ -1,6 +1,5 @@
 -- `answer_session` meets its contract: each case is answered by its function.
 use Rattle.replay.specs.Sessions.{answered_session}
-use borrow.Author.Rules.{rules}
 use Rattle.replay.proofs.session.answer_session.Goals as goal
 
 pub returns-in-Digest : goal.returns-in-Digest

@@ -1,7 +1,6 @@
 -- `answer_state` meets its contract: the dump is put, then the end.
 use mathlib.Core.Path.{ap, ◌∙◌}
 use Rattle.replay.specs.Sessions.{finished, answered_session}
-use borrow.Author.Rules.{rules}
 use Rattle.replay.proofs.session.answer_state.Goals as goal
 
 pub returns : goal.returns

@@ -1,7 +1,6 @@
 -- `answer_step` meets its contract: the call is made, its columns are put, then the end.
 use mathlib.Core.Path.{ap, ◌∙◌}
 use Rattle.replay.specs.Sessions.{finished, answered_step}
-use borrow.Author.Rules.{rules}
 use Rattle.replay.proofs.session.answer_step.Goals as goal
 
 pub returns : goal.returns

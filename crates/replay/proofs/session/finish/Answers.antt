@@ -3,7 +3,6 @@ use Prim.Native.Nat.{ℕ}
 use mathlib.Core.List.{List}
 use mathlib.Core.Path.{ap}
 use Rattle.replay.specs.Sessions.{finished}
-use borrow.Author.Rules.{rules}
 use Rattle.replay.proofs.session.finish.Goals as goal
 
 pub returns : goal.returns

@@ -1,6 +1,5 @@
 -- `first_counter` meets its contract: both are started.
 use Rattle.replay.specs.Starts.{first_counter}
-use borrow.Author.Rules.{rules}
 use Rattle.replay.proofs.starts.first_counter.Goals as goal
 
 pub returns : goal.returns

@@ -1,6 +1,5 @@
 -- `start_registry` meets its contract: an accepted start replaces the registry.
 use Rattle.replay.specs.Starts.{started_registry}
-use borrow.Author.Rules.{rules}
 use Rattle.replay.proofs.starts.start_registry.Goals as goal
 
 pub returns : goal.returns

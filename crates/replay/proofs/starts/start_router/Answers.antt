@@ -1,6 +1,5 @@
 -- `start_router` meets its contract: an accepted start replaces the router.
 use Rattle.replay.specs.Starts.{started_router}
-use borrow.Author.Rules.{rules}
 use Rattle.replay.proofs.starts.start_router.Goals as goal
 
 pub returns : goal.returns
