@@ -4,7 +4,6 @@ use Rattle.std.specs.Prelude.{◌≡◌, true, List, ◌++◌}
 use Rattle.composition_state.specs.Damage.{is_sound}
 use Rattle.input_router.specs.Damage.{is_router_sound}
 use Rattle.input_router.specs.Router.{presses_of}
-use Rattle.counter.specs.declared.step.Counter.{Counter}
 use Rattle.counter.specs.declared.step.Stepped.{Stepped}
 use Rattle.counter_memory.specs.declared.memory.CounterMemory.{CounterMemory}
 use Rattle.counter_memory.specs.Memory.{counter_of}

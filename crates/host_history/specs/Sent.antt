@@ -1,6 +1,6 @@
 -- A host's calls of the library as a list of calls on one counter. What the library refuses, as malformed or for a
 -- short buffer, is no call.
-use Rattle.std.specs.Prelude.{ℕ, Bool, cond, List, [], ◌∷◌, eqb, length}
+use Rattle.std.specs.Prelude.{ℕ, cond, List, [], ◌∷◌, eqb, length}
 use Rattle.call_numbers.specs.Calls.{call_at}
 use Rattle.counter_memory.specs.declared.memory.CounterMemory.{CounterMemory}
 use Rattle.book.specs.Book.{Asked}
