@@ -29,6 +29,39 @@ LIBRARY = {
     "not-true": "crates/release_lists/proofs/ReleaseLaws.antt",
     "or-false": "crates/history/proofs/JoinLaws.antt",
 }
+# Names that stand for others in one file, as behind `as`, and parameters of a module.
+ALIASES = {
+    "compositionPhase": "composition_phase",
+    "deliveryTable": "delivery_table",
+    "deviceCheck": "device_check",
+    "deviceKind": "device_kind",
+    "hasPrimary": "has_primary",
+    "idRefusal": "id_refusal",
+    "isOfRouterDevice": "is_of_router_device",
+    "keyPhase": "key_phase",
+    "ltA": "lt_a",
+    "ltB": "lt_b",
+    "maybeFields": "maybe_fields",
+    "mayFocus": "may_be_focused",
+    "notClosed": "not_closed",
+    "oA": "o_a",
+    "oB": "o_b",
+    "optionalFields": "optional_fields",
+    "panelView": "panel_view",
+    "pointerPhase": "pointer_phase",
+    "rectFields": "rect_fields",
+    "releaseTable": "release_table",
+    "routerStarted": "router_started",
+    "routerWithout": "router_without",
+    "sameA": "same_a",
+    "sameB": "same_b",
+    "stateDeliveries": "state_deliveries",
+    "stateHits": "state_hits",
+    "stateLayers": "state_layers",
+    "stateTraces": "state_traces",
+    "surfaceKind": "surface_kind",
+    "wheelUnit": "wheel_unit",
+}
 # A file that would have a generated module's name.
 MOVED = ("crates/in_place/specs", "Contracts", "EntryContracts")
 
@@ -119,7 +152,7 @@ def main(argv):
         # a lemma that would have its function's name
         if old not in CLASHES and "-" in old and snake(old) in defined:
             table[old] = snake(old) + "_lem"
-    table = {old: new for old, new in table.items() if old != new}
+    table = {**{old: new for old, new in table.items() if old != new}, **ALIASES}
     paths = list(files("crates/*/specs/**/*.antt", "crates/*/proofs/**/*.antt", "crates/*/src/**/*.rt"))
     if "--report" in argv:
         print(len(table), "names")

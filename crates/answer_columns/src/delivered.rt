@@ -1,7 +1,7 @@
 // Column 5: the deliveries of an event.
 ghost use Rattle.std.specs.Prelude.{◌≡◌, List, ◌++◌, ℕ, length};
 ghost use Rattle.lists.specs.Tables.{entries_of};
-ghost use Rattle.records.specs.Traces.{deliveries as deliveryTable};
+ghost use Rattle.records.specs.Traces.{deliveries as delivery_table};
 ghost use Rattle.answer_columns.specs.Pieces.{put_all, comma_pieces, list_pieces};
 ghost use Rattle.answer_columns.specs.Columns.{delivery_pieces};
 
@@ -31,7 +31,7 @@ fn put_next_delivery(out: &mut [u8], at: usize, i: usize, delivery: InputDeliver
 
 // How many deliveries are listed: a stored count past the table is read as a full table.
 fn count_deliveries(deliveries: Deliveries) -> usize
-    ensures { result ≡ length (entries_of deliveryTable deliveries) }
+    ensures { result ≡ length (entries_of delivery_table deliveries) }
 {
     let n = deliveries.len;
     if n < 16 {
@@ -42,7 +42,7 @@ fn count_deliveries(deliveries: Deliveries) -> usize
 
 pub fn put_deliveries(out: &mut [u8], at: usize, deliveries: Deliveries) -> usize
     ensures { ◌≡◌ {A = List ℕ × ℕ} (out.new, result)
-        (put_all (list_pieces delivery_pieces (entries_of deliveryTable deliveries)) (out.old, at)) }
+        (put_all (list_pieces delivery_pieces (entries_of delivery_table deliveries)) (out.old, at)) }
 {
     let n = count_deliveries(deliveries);
     if n == 0 {

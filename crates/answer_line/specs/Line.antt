@@ -44,7 +44,8 @@ abbrev pub state_taken : ℕ → CompositionRegistry → List ℕ → List ℕ �
 state_taken calls r buf = placed Dump (registry_numbers r) (put_all (head_pieces calls 0 r.revision) (buf, 0))
 
 abbrev pub router_state_taken : ℕ → ℕ → PlatformInputRouter → List ℕ → List ℕ × ℕ
-router_state_taken calls revision t buf = placed Dump (router_numbers t) (put_all (head_pieces calls 0 revision) (buf, 0))
+router_state_taken calls revision t buf = placed Dump (router_numbers t) (put_all (head_pieces calls 0 revision)
+    (buf, 0))
 
 -- a digest in decimal, behind a space
 abbrev pub digest_pieces : ℕ → List (List ℕ)

@@ -1,7 +1,7 @@
 // What a panel's close and a shutdown show.
 ghost use Rattle.std.specs.Prelude.{ℕ, List, ◌≡◌, length};
 ghost use Rattle.lists.specs.Tables.{entries_of};
-ghost use Rattle.composition_close.specs.Reports.{releases as releaseTable, close_reports};
+ghost use Rattle.composition_close.specs.Reports.{releases as release_table, close_reports};
 ghost use Rattle.answer_numbers.specs.declared.sink.Sink.{Sink};
 ghost use Rattle.answer_numbers.specs.Numbers.{numbers_taken};
 ghost use Rattle.answer_more.specs.Closing.{release_number, releases_numbers, close_numbers, report_numbers, reports_numbers, shutdown_numbers, closing_numbers};
@@ -27,7 +27,7 @@ fn release_number(release: SurfaceRelease) -> u64
 
 // A stored count past its table is read as a full table.
 fn count_releases(list: SurfaceReleases) -> usize
-    ensures { result ≡ length (entries_of releaseTable list) }
+    ensures { result ≡ length (entries_of release_table list) }
 {
     let n = list.len;
     if n < 3 {

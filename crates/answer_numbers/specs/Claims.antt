@@ -7,7 +7,8 @@ use Rattle.answer_numbers.specs.Numbers.{Number, sink_from, numbers_taken, dump_
 
 pub record NumberClaims : Type 0 where
   -- two lists taken one after the other are the two as one
-  pub taken_both : (a b : List Number) (s : List ℕ × Sink) → numbers_taken (a ++ b) s ≡ numbers_taken b (numbers_taken a s)
+  pub taken_both : (a b : List Number) (s : List ℕ × Sink) → numbers_taken (a ++ b) s
+      ≡ numbers_taken b (numbers_taken a s)
   -- the buffer keeps its length
   pub same_length : (l : List Number) (s : List ℕ × Sink) → length (numbers_taken l s).0 ≡ length s.0
   -- a digest leaves the buffer as it is

@@ -24,7 +24,8 @@ bytes_then words buf = text_then (bytes_of words) buf
 
 pub record WordClaims : Type 0 where
   -- the first word is the answer's number
-  pub number : (call : Call) (a : Answer) (k : Counter) → get_or (answer_words call a k) 0 0 ≡ router_number_of a.outcome
+  pub number : (call : Call) (a : Answer) (k : Counter) → get_or (answer_words call a k) 0 0
+      ≡ router_number_of a.outcome
   -- words of 64 bits are read back from their bytes
   pub words_back : (l rest : List ℕ) → All (λ n. n < 18446744073709551616) l
       → words_read (length l) (bytes_of l ++ rest) ≡ l

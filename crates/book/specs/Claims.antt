@@ -46,17 +46,21 @@ pub record PressClaims (l : Lists) : Type 0 where
   -- to the new receiver, with no release listed."
   -- not: a Down that opens nothing
   pub pointer_opens : (after l (contact P.Down) (taken_by pay_sheet) empty_book).presses ≡ finger 7 1 0 pay_sheet ∷ []
-  pub key_opens : (after l (key_event 7 1 K.Down false) (taken_by pay_sheet) empty_book).presses ≡ key_on 7 1 30 pay_sheet ∷ []
-  pub gamepad_opens : (after l (snapshot 7 1 true) (taken_by pay_sheet) empty_book).presses ≡ gamepad_on 7 1 pay_sheet ∷ []
+  pub key_opens : (after l (key_event 7 1 K.Down false) (taken_by pay_sheet) empty_book).presses
+      ≡ key_on 7 1 30 pay_sheet ∷ []
+  pub gamepad_opens : (after l (snapshot 7 1 true) (taken_by pay_sheet) empty_book).presses
+      ≡ gamepad_on 7 1 pay_sheet ∷ []
   -- not: a repeated Down that opens or moves
   pub repeat_leaves : after l (key_event 7 1 K.Down true) (taken_by pay_sheet) (pressed (key_on 7 1 30 seat_map ∷ []))
       ≡ pressed (key_on 7 1 30 seat_map ∷ [])
   -- not: a press kept with the panel of its first Down; one press on two panels
   pub pointer_moves : (after l (contact P.Down) (taken_by pay_sheet) (pressed (finger 7 1 0 seat_map ∷ []))).presses
       ≡ finger 7 1 0 pay_sheet ∷ []
-  pub key_moves : (after l (key_event 7 1 K.Down false) (taken_by pay_sheet) (pressed (key_on 7 1 30 seat_map ∷ []))).presses
+  pub key_moves : (after l (key_event 7 1 K.Down false) (taken_by pay_sheet) (pressed (key_on 7 1 30 seat_map
+      ∷ []))).presses
       ≡ key_on 7 1 30 pay_sheet ∷ []
-  pub gamepad_moves : (after l (snapshot 7 1 true) (taken_by pay_sheet) (pressed (gamepad_on 7 1 seat_map ∷ []))).presses
+  pub gamepad_moves : (after l (snapshot 7 1 true) (taken_by pay_sheet) (pressed (gamepad_on 7 1 seat_map
+      ∷ []))).presses
       ≡ gamepad_on 7 1 pay_sheet ∷ []
   -- not: a release listed when a press moves
   pub moves_unlisted : owes l (contact P.Down) (taken_by pay_sheet) (pressed (finger 7 1 0 seat_map ∷ [])) ≡ []
@@ -78,7 +82,8 @@ pub record PressClaims (l : Lists) : Type 0 where
       ≡ finger 7 1 1 seat_map ∷ finger 7 2 0 seat_map ∷ key_on 7 1 0 seat_map ∷ []
   -- ---- "Being listed on a disconnect, a view's loss (of focus or visibility) or a router release ends it too."
   -- not: a press that stays open once it was listed
-  pub unplugged_ends : (after l unplugged accepted (pressed (finger 7 1 0 seat_map ∷ finger 7 2 0 seat_map ∷ []))).presses
+  pub unplugged_ends : (after l unplugged accepted (pressed (finger 7 1 0 seat_map ∷ finger 7 2 0 seat_map
+      ∷ []))).presses
       ≡ finger 7 2 0 seat_map ∷ []
   pub unfocused_ends : (after l (focused false) accepted (pressed (finger 7 1 0 seat_map ∷ key_on 8 1 30 pay_sheet
       ∷ []))).presses ≡ key_on 8 1 30 pay_sheet ∷ []
@@ -86,7 +91,8 @@ pub record PressClaims (l : Lists) : Type 0 where
       ∷ []))).presses ≡ key_on 8 1 30 pay_sheet ∷ []
   pub panel_ends : (after l (panel_released seat_map) accepted (pressed (finger 7 1 0 seat_map ∷ key_on 8 1 30 pay_sheet
       ∷ []))).presses ≡ key_on 8 1 30 pay_sheet ∷ []
-  pub all_ends : (after l all_released accepted (pressed (finger 7 1 0 seat_map ∷ key_on 8 1 30 pay_sheet ∷ []))).presses
+  pub all_ends : (after l all_released accepted (pressed (finger 7 1 0 seat_map ∷ key_on 8 1 30 pay_sheet
+      ∷ []))).presses
       ≡ []
   -- ---- "A disconnected snapshot is a gamepad's Up and not its device's disconnect."
   -- not: a disconnected snapshot that lists or ends the device's other presses
@@ -124,14 +130,16 @@ pub record OrderClaims (l : Lists) : Type 0 where
       ∷ []) (grip 9 first_view seat_map ∷ [])) ≡ []
   -- ---- "Pointers by device, generation, contact; keys by device, generation, key; gamepads by device, generation"
   -- not: by generation before device (6.9); by contact before generation (7.2.0); in the order of the Downs
-  pub pointers_by_device : (after l (event_of (device_at 7 1) first_view (contact_payload 3 P.Down)) (taken_by pay_sheet)
+  pub pointers_by_device : (after l (event_of (device_at 7 1) first_view (contact_payload 3 P.Down))
+      (taken_by pay_sheet)
       (pressed (finger 6 9 5 seat_map ∷ finger 7 1 4 seat_map ∷ finger 7 2 0 seat_map ∷ finger 8 1 0 seat_map
       ∷ []))).presses
       ≡ finger 6 9 5 seat_map ∷ finger 7 1 3 pay_sheet ∷ finger 7 1 4 seat_map ∷ finger 7 2 0 seat_map
       ∷ finger 8 1 0 seat_map ∷ []
   pub keys_by_device : (after l (key_event 7 1 K.Down false) (taken_by pay_sheet) (pressed (key_on 6 9 40 seat_map
       ∷ key_on 7 1 31 seat_map ∷ key_on 7 2 9 seat_map ∷ key_on 8 1 9 seat_map ∷ []))).presses
-      ≡ key_on 6 9 40 seat_map ∷ key_on 7 1 30 pay_sheet ∷ key_on 7 1 31 seat_map ∷ key_on 7 2 9 seat_map ∷ key_on 8 1 9 seat_map
+      ≡ key_on 6 9 40 seat_map ∷ key_on 7 1 30 pay_sheet ∷ key_on 7 1 31 seat_map ∷ key_on 7 2 9 seat_map
+      ∷ key_on 8 1 9 seat_map
       ∷ []
   pub gamepads_by_device : (after l (snapshot 7 1 true) (taken_by pay_sheet) (pressed (gamepad_on 6 9 seat_map
       ∷ gamepad_on 7 2 seat_map ∷ gamepad_on 8 1 seat_map ∷ []))).presses
@@ -146,7 +154,8 @@ pub record OrderClaims (l : Lists) : Type 0 where
   pub captures_by_view : owes l unplugged accepted (book_of (key_on 7 1 30 seat_map ∷ []) (grip 9 first_view seat_map
       ∷ grip 0 second_view pay_sheet ∷ capture_in second_view (pointer_at 7 2 0) pay_sheet ∷ []))
       ≡ key_on 7 1 30 seat_map ∷ finger 7 1 9 seat_map ∷ finger 7 1 0 pay_sheet ∷ []
-  pub captures_of_view : owes l (focused false) accepted (book_of (finger 8 1 0 hold_bar ∷ []) (grip 9 first_view seat_map
+  pub captures_of_view : owes l (focused false) accepted (book_of (finger 8 1 0 hold_bar
+      ∷ []) (grip 9 first_view seat_map
       ∷ grip 0 second_view pay_sheet ∷ []))
       ≡ finger 8 1 0 hold_bar ∷ finger 7 1 9 seat_map ∷ []
   -- not: a pair listed twice
@@ -164,7 +173,8 @@ pub record OrderClaims (l : Lists) : Type 0 where
   -- ---- "`release_all` does this panel by panel, by handle, without captures"
   -- not: by kind; panels by their first press; by generation before index; with captures
   pub all_by_panel : owes l all_released accepted (book_of (finger 7 1 0 pay_sheet ∷ finger 7 1 1 (handle_at 0 2)
-      ∷ finger 7 1 2 seat_map ∷ key_on 7 1 30 seat_map ∷ gamepad_on 7 1 pay_sheet ∷ []) (grip 9 first_view seat_map ∷ []))
+      ∷ finger 7 1 2 seat_map ∷ key_on 7 1 30 seat_map ∷ gamepad_on 7 1 pay_sheet ∷ []) (grip 9 first_view seat_map
+      ∷ []))
       ≡ finger 7 1 2 seat_map ∷ key_on 7 1 30 seat_map ∷ finger 7 1 1 (handle_at 0 2) ∷ finger 7 1 0 pay_sheet
       ∷ gamepad_on 7 1 pay_sheet ∷ []
 
@@ -178,7 +188,8 @@ pub record NoteClaims (l : Lists) : Type 0 where
   pub refused_down : after l (contact P.Down) (refused_with 40) empty_book ≡ empty_book
   pub refused_attach : (d : SurfaceDescriptor) → after l (Panel (panel.AttachSurface d)) (refused_with 4) empty_book
       ≡ empty_book
-  pub refused_capture : after l (capture_for (pointer_at 7 1 9) seat_map) (refused_with 41) (capturing []) ≡ capturing []
+  pub refused_capture : after l (capture_for (pointer_at 7 1 9) seat_map) (refused_with 41) (capturing [])
+      ≡ capturing []
   -- not: a focus, a policy, a shortcut, an arbitration, a read or a shutdown that ends or drops
   pub focus_noted_not : (x : FocusArguments) (b : Book) → after l (Input (input.SetFocus x)) accepted b ≡ b
   pub policy_noted_not : (x : PolicyArguments) (b : Book)
@@ -189,7 +200,8 @@ pub record NoteClaims (l : Lists) : Type 0 where
   pub shutdown_noted_not : (b : Book) → after l (Close Shutdown) accepted b ≡ b
   -- ---- "Attach notes the view."
   -- not: the view of an earlier panel in the slot
-  pub attach_noted : (d : SurfaceDescriptor) → (after l (Panel (panel.AttachSurface d)) (made seat_map) empty_book).homes
+  pub attach_noted : (d : SurfaceDescriptor) → (after l (Panel (panel.AttachSurface d))
+      (made seat_map) empty_book).homes
       ≡ record { surface = seat_map; view = d.view } ∷ []
   -- ---- "Capture gives the panel the pointer in the panel's view"
   -- not: in the view of the last event; a capture without its view
@@ -205,7 +217,8 @@ pub record NoteClaims (l : Lists) : Type 0 where
       ≡ grip 9 first_view hold_bar ∷ grip 9 second_view pay_sheet ∷ []
   -- not: by pointer before view; by generation before device, or by contact before generation, within a view
   pub capture_by_view : (after l (capture_for (pointer_at 7 1 0) pay_sheet) accepted
-      (capturing (grip 9 first_view seat_map ∷ []))).captures ≡ grip 9 first_view seat_map ∷ grip 0 second_view pay_sheet ∷ []
+      (capturing (grip 9 first_view seat_map ∷ []))).captures
+      ≡ grip 9 first_view seat_map ∷ grip 0 second_view pay_sheet ∷ []
   pub capture_by_pointer : (after l (capture_for (pointer_at 7 1 8) seat_map) accepted
       (capturing (capture_in first_view (pointer_at 6 9 9) hold_bar ∷ grip 9 first_view hold_bar
       ∷ capture_in first_view (pointer_at 7 2 0) hold_bar ∷ []))).captures
@@ -215,7 +228,8 @@ pub record NoteClaims (l : Lists) : Type 0 where
   -- not: a pointer dropped that another panel has; every pointer of the panel
   pub release_drops : (after l (release_for (pointer_at 7 1 9) seat_map) accepted (capturing (grip 8 first_view seat_map
       ∷ grip 9 first_view seat_map ∷ []))).captures ≡ grip 8 first_view seat_map ∷ []
-  pub release_of_another : (after l (release_for (pointer_at 7 1 9) hold_bar) accepted (capturing (grip 9 first_view seat_map
+  pub release_of_another : (after l (release_for (pointer_at 7 1 9) hold_bar) accepted (capturing
+      (grip 9 first_view seat_map
       ∷ []))).captures ≡ grip 9 first_view seat_map ∷ []
   -- ---- "device captures, suspend and a panel's close drop the captures of the device, view or panel"
   -- not: of the device's value; presses ended with them
@@ -239,7 +253,8 @@ pub record NoteClaims (l : Lists) : Type 0 where
   pub up_lists_none : owes l (contact P.Up) accepted (book_of (finger 7 1 0 seat_map ∷ []) (grip 0 first_view seat_map
       ∷ [])) ≡ []
   pub wheel_lists_none : (w : WheelInput)
-      → owes l (event_of (device_at 7 1) first_view (payload.Wheel w)) accepted (pressed (finger 7 1 0 seat_map ∷ [])) ≡ []
+      → owes l (event_of (device_at 7 1) first_view (payload.Wheel w)) accepted (pressed (finger 7 1 0 seat_map ∷ []))
+      ≡ []
   -- not: captures that a router release drops
   pub panel_keeps_captures : after l (panel_released seat_map) accepted (capturing (grip 9 first_view seat_map ∷ []))
       ≡ capturing (grip 9 first_view seat_map ∷ [])

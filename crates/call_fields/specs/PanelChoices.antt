@@ -1,7 +1,7 @@
 -- The enums of panels, views and shortcuts, by their numbers: the declared order from 0; past it the first.
 use Rattle.std.specs.Prelude.{ℕ, List, [], ◌∷◌, get_or}
 use Rattle.records.specs.declared.surface.SurfaceKind.{SurfaceKind}
-use Rattle.records.specs.declared.surface.SurfaceKind.TheVariants as surfaceKind
+use Rattle.records.specs.declared.surface.SurfaceKind.TheVariants as surface_kind
 use Rattle.records.specs.declared.surface.SurfaceInputPolicy.{SurfaceInputPolicy}
 use Rattle.records.specs.declared.surface.SurfaceInputPolicy.TheVariants as policy
 use Rattle.geometry.specs.declared.metrics.ViewVisibility.{ViewVisibility}
@@ -11,15 +11,15 @@ use Rattle.records.specs.declared.shortcut.ShortcutScope.TheVariants as scope
 
 -- a panel's kind
 abbrev pub surface_kinds : List SurfaceKind
-surface_kinds = surfaceKind.Game ∷ surfaceKind.Ui ∷ surfaceKind.Diagnostics ∷ []
+surface_kinds = surface_kind.Game ∷ surface_kind.Ui ∷ surface_kind.Diagnostics ∷ []
 
 unfoldable pub surface_kind_of : ℕ → SurfaceKind
-surface_kind_of n = get_or surface_kinds n surfaceKind.Game
+surface_kind_of n = get_or surface_kinds n surface_kind.Game
 
 abbrev pub surface_kind_number : SurfaceKind → ℕ
-surface_kind_number surfaceKind.Game = 0
-surface_kind_number surfaceKind.Ui = 1
-surface_kind_number surfaceKind.Diagnostics = 2
+surface_kind_number surface_kind.Game = 0
+surface_kind_number surface_kind.Ui = 1
+surface_kind_number surface_kind.Diagnostics = 2
 
 -- a panel's policy
 abbrev pub policies : List SurfaceInputPolicy

@@ -8,15 +8,15 @@ use Rattle.geometry.specs.declared.rect.OptionalRect.{OptionalRect}
 use Rattle.geometry.specs.declared.surface.SurfaceGeometry.{SurfaceGeometry}
 use Rattle.geometry.specs.declared.transform.Point.{Point}
 use Rattle.geometry.specs.declared.transform.SurfaceTransform.{SurfaceTransform}
-use Rattle.call_fields.specs.Groups.{rect_of, rect_numbers as rectFields}
+use Rattle.call_fields.specs.Groups.{rect_of, rect_numbers as rect_fields}
 use Rattle.call_fields.specs.Narrow.{within, is_one, one_if, signed_of}
 use Rattle.call_fields.specs.PanelChoices.{visibility_of, visibility_number}
 
 -- flag, x, y, width, height
 abbrev pub rect_numbers : OptionalRect → List ℕ
 rect_numbers o =
-    (rectFields o).present ∷ (rectFields o).x_milli ∷ (rectFields o).y_milli ∷ (rectFields o).width_milli
-    ∷ (rectFields o).height_milli ∷ []
+    (rect_fields o).present ∷ (rect_fields o).x_milli ∷ (rect_fields o).y_milli ∷ (rect_fields o).width_milli
+    ∷ (rect_fields o).height_milli ∷ []
 
 abbrev pub rect_at : List ℕ → ℕ → OptionalRect
 rect_at l i =

@@ -3,14 +3,14 @@ use Rattle.std.specs.Prelude.{ℕ, cond, List, [], ◌∷◌, ◌++◌, eqb, get
 use Rattle.composition_shortcuts.specs.declared.register.OptionalRegistration.{OptionalRegistration}
 use Rattle.calls.specs.declared.call.ShortcutCall.{ShortcutCall}
 use Rattle.calls.specs.declared.call.ShortcutCall.TheVariants.{RegisterSet, RegisterOne, SetMask}
-use Rattle.call_fields.specs.Groups.{maybe_of, maybe_numbers as maybeFields}
+use Rattle.call_fields.specs.Groups.{maybe_of, maybe_numbers as maybe_fields}
 use Rattle.call_numbers.specs.Words.{handle_numbers, handle_at}
 
 -- flag, class mask, scope, priority
 abbrev pub maybe_numbers : OptionalRegistration → List ℕ
 maybe_numbers o =
-    (maybeFields o).present ∷ (maybeFields o).registration.class_mask ∷ (maybeFields o).registration.scope
-    ∷ (maybeFields o).registration.priority ∷ []
+    (maybe_fields o).present ∷ (maybe_fields o).registration.class_mask ∷ (maybe_fields o).registration.scope
+    ∷ (maybe_fields o).registration.priority ∷ []
 
 abbrev pub maybe_at : List ℕ → OptionalRegistration
 maybe_at l =

@@ -21,7 +21,7 @@ use Rattle.records.specs.declared.trace.Hits.{Hits}
 use Rattle.records.specs.declared.view.ViewRecord.{ViewRecord}
 use Rattle.composition_state.specs.Damage.{damage_refusal}
 use Rattle.composition_state.specs.Registry.{with_revision}
-use Rattle.records.specs.Traces.{hits as stateHits, deliveries}
+use Rattle.records.specs.Traces.{hits as state_hits, deliveries}
 use Rattle.records.specs.Views.{view_at, view_refusal}
 use Rattle.view_panels.specs.Panels.{Panel}
 use Rattle.composition_state.proofs.SettleLaws.{then_last, if_accepted, refused_early, settled_accepted, accepted_is}
@@ -72,7 +72,7 @@ walk_ends : (v : ViewRecord) (panels : List Panel) (event : ArbitrationEvent) (h
     → (walk_over v panels event h).consumed_by ≡ Some s → EndsWith (record { surface = s; observed = false }) (entries_of deliveries (walk_over v panels event h).deliveries)
 unfolding walk_over walk_of
 walk_ends v panels event h s t =
-    let e = (walk.claims).consumer_last (verdict_of (chosen event v) (entries_of stateHits h)) panels s t in
+    let e = (walk.claims).consumer_last (verdict_of (chosen event v) (entries_of state_hits h)) panels s t in
     record { front = e.front; is = entries_packed deliveries _ ∙ e.is }
 
 either_ends : (winner : OptionalHandle) (w : Walked) (s : GenerationalHandle)

@@ -23,7 +23,7 @@ use Rattle.records.specs.Errors.{then_refusal, refusal_if, is_accepted}
 use Rattle.composition_state.specs.Damage.{damage_refusal}
 use Rattle.composition_state.specs.Registry.{with_traces, settled}
 use Rattle.records.specs.Shortcuts.{shortcuts}
-use Rattle.records.specs.Traces.{hits as stateHits, deliveries}
+use Rattle.records.specs.Traces.{hits as state_hits, deliveries}
 use Rattle.records.specs.Views.{view_at, view_refusal}
 use Rattle.view_panels.specs.Panels.{Panel, panels_in}
 use Rattle.composition_shortcuts.specs.declared.resolve.Resolved.{Resolved}
@@ -50,7 +50,7 @@ is_stack Shortcut = false
 is_stack (SystemShortcut mask) = false
 
 unfoldable pub own_hits : ArbitrationEvent → Hits → Hits
-own_hits event h = cond (is_stack event) h (packed stateHits [])
+own_hits event h = cond (is_stack event) h (packed state_hits [])
 
 -- 41: over 16 hits handed in
 abbrev pub hits_refusal : Hits → Outcome
@@ -85,7 +85,7 @@ or_alone None walk = walk
 
 -- the walk over panels of a view, aimed by the view's record
 unfoldable pub walk_over : ViewRecord → List Panel → ArbitrationEvent → Hits → Walked
-walk_over v panels event h = walk_of (verdict_of (chosen event v) (entries_of stateHits h)) panels
+walk_over v panels event h = walk_of (verdict_of (chosen event v) (entries_of state_hits h)) panels
 
 -- who gets an event, and who takes it
 abbrev pub arbitration_over : ViewRecord → List Panel → OptionalHandle → ArbitrationEvent → Hits → Walked

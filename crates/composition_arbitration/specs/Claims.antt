@@ -82,7 +82,8 @@ pub record WalkClaims : Type 0 where
       × (walk_of (verdict_of (chosen PointerStack v) hits) l ≡ walk_of (verdict_of (chosen PointerStack v) more) l)
   pub named_capture_decides : (v : ViewRecord) (p : CompositionPointerId) (owner : GenerationalHandle)
       (m n : OptionalHandle) (hits more : List GenerationalHandle) (l : List Panel) → capture_for p v ≡ Some owner
-      → (walk_of (verdict_of (chosen (PointerFor p m) v) hits) l ≡ walk_of (verdict_of (chosen (PointerFor p n) v) more) l)
+      → (walk_of (verdict_of (chosen (PointerFor p m) v) hits) l
+      ≡ walk_of (verdict_of (chosen (PointerFor p n) v) more) l)
       × (walk_of (verdict_of (chosen (PointerStackFor p) v) hits) l
       ≡ walk_of (verdict_of (chosen (PointerStackFor p) v) more) l)
   -- the order of the hits decides nothing: lists with the same panels give the same answer
@@ -91,7 +92,8 @@ pub record WalkClaims : Type 0 where
       → walk_of (verdict_of c hits) l ≡ walk_of (verdict_of c more) l
 
 -- the trace that an accepted call stores
-abbrev pub new_trace : TakingPart → CompositionRegistry → GenerationalHandle → ArbitrationEvent → Hits → CompositionTrace
+abbrev pub new_trace : TakingPart → CompositionRegistry → GenerationalHandle → ArbitrationEvent → Hits
+    → CompositionTrace
 new_trace part r view event h =
     trace_of (r.revision + 1) view event (own_hits event h) (arbitration_among part r view event h)
 

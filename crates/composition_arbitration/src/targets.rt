@@ -1,7 +1,7 @@
 // Which panels an event is meant for.
 ghost use Rattle.std.specs.Prelude.{◌≡◌, length};
 ghost use Rattle.lists.specs.Tables.{entries_of};
-ghost use Rattle.records.specs.Traces.{hits as stateHits};
+ghost use Rattle.records.specs.Traces.{hits as state_hits};
 ghost use Rattle.composition_arbitration.specs.Targets.{is_among, capture_or, chosen, is_targeted};
 
 use handles::{GenerationalHandle, OptionalHandle};
@@ -20,7 +20,7 @@ pub enum Choice {
 }
 
 fn count(hits: Hits) -> usize
-    ensures { result ≡ length (entries_of stateHits hits) }
+    ensures { result ≡ length (entries_of state_hits hits) }
 {
     let n = hits.len;
     if n < 16 {
@@ -30,7 +30,7 @@ fn count(hits: Hits) -> usize
 }
 
 fn is_among(hits: Hits, surface: GenerationalHandle) -> bool
-    ensures { result ≡ is_among surface (entries_of stateHits hits) }
+    ensures { result ≡ is_among surface (entries_of state_hits hits) }
 {
     let n = count(hits);
     let mut i = 0;
@@ -88,7 +88,7 @@ pub fn is_targeted(
     surface: GenerationalHandle,
     accepts_text: bool,
 ) -> bool
-    ensures { result ≡ is_targeted choice (entries_of stateHits hits) surface accepts_text }
+    ensures { result ≡ is_targeted choice (entries_of state_hits hits) surface accepts_text }
 {
     match choice {
         Choice::Captured(owner) => handles::same_handle(owner, surface),

@@ -1,13 +1,13 @@
 // The trace of the last arbitrations.
 ghost use Rattle.std.specs.Prelude.{◌≡◌, ◌-◌, length};
 ghost use Rattle.lists.specs.Tables.{entries_of};
-ghost use Rattle.records.specs.Traces.{traces as stateTraces};
+ghost use Rattle.records.specs.Traces.{traces as state_traces};
 ghost use Rattle.composition_arbitration.specs.Trace.{kept_traces, traced};
 
 use records::trace::{CompositionTrace, Traces};
 
 fn count(traces: Traces) -> usize
-    ensures { result ≡ length (entries_of stateTraces traces) }
+    ensures { result ≡ length (entries_of state_traces traces) }
 {
     let n = traces.len;
     if n < 32 {

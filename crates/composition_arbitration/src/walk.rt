@@ -1,7 +1,7 @@
 // The walk over panels of a view, from the top until one consumes the event.
 ghost use Rattle.std.specs.Prelude.{◌≡◌, ◌++◌, ◌<◌, length};
 ghost use Rattle.lists.specs.Tables.{entries_of, packed, pushed};
-ghost use Rattle.records.specs.Traces.{hits as stateHits, deliveries as stateDeliveries};
+ghost use Rattle.records.specs.Traces.{hits as state_hits, deliveries as state_deliveries};
 ghost use Rattle.view_panels.specs.Panels.{standing};
 ghost use Rattle.composition_arbitration.specs.Layers.{verdict, delivers, consumes, observes, delivered, verdict_of, walk_of};
 
@@ -91,7 +91,7 @@ impl Verdict {
 
 fn push(deliveries: Deliveries, delivery: InputDelivery) -> Deliveries
     requires { deliveries.len < 16 }
-    ensures { result ≡ pushed stateDeliveries deliveries delivery }
+    ensures { result ≡ pushed state_deliveries deliveries delivery }
 {
     let at = deliveries.len;
     let mut next = deliveries;
@@ -102,9 +102,9 @@ fn push(deliveries: Deliveries, delivery: InputDelivery) -> Deliveries
 
 // The deliveries, with that of one layer more if its verdict delivers.
 fn deliver(deliveries: Deliveries, surface: GenerationalHandle, verdict: Verdict) -> Deliveries
-    requires deliveries_value { deliveries ≡ packed stateDeliveries (entries_of stateDeliveries deliveries) }
-    requires deliveries_len_bound { length (entries_of stateDeliveries deliveries) < 16 }
-    ensures { result ≡ packed stateDeliveries (entries_of stateDeliveries deliveries ++ delivered verdict surface) }
+    requires deliveries_value { deliveries ≡ packed state_deliveries (entries_of state_deliveries deliveries) }
+    requires deliveries_len_bound { length (entries_of state_deliveries deliveries) < 16 }
+    ensures { result ≡ packed state_deliveries (entries_of state_deliveries deliveries ++ delivered verdict surface) }
 {
     if verdict.is_delivered() {
         let delivery = InputDelivery {
@@ -123,7 +123,7 @@ fn verdict_of(
     hits: Hits,
     surface: GenerationalHandle,
 ) -> Verdict
-    ensures { result ≡ verdict_of choice (entries_of stateHits hits)
+    ensures { result ≡ verdict_of choice (entries_of state_hits hits)
         (record { surface = surface; descriptor = «record».descriptor }) }
 {
     let descriptor = record.descriptor;
@@ -134,7 +134,7 @@ fn verdict_of(
 
 // The deliveries and the consumer, with the panels walked from the top.
 pub fn walk_layers(panels: ViewPanels, choice: Choice, hits: Hits) -> Walked
-    ensures { result ≡ walk_of (verdict_of choice (entries_of stateHits hits)) (standing panels) }
+    ensures { result ≡ walk_of (verdict_of choice (entries_of state_hits hits)) (standing panels) }
 {
     let layers = panels.layers;
     let found = panels.records;

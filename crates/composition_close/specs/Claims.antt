@@ -61,7 +61,8 @@ pub record CloseClaims : Type 0 where
       }
   pub view_step_lem : (r : CompositionRegistry) (view : GenerationalHandle) → (close_view r view).outcome ≡ Accepted
       → view_closed view r ≡ (close_view r view).registry
-  pub window_step_lem : (r : CompositionRegistry) (window : GenerationalHandle) → (close_window r window).outcome ≡ Accepted
+  pub window_step_lem : (r : CompositionRegistry) (window : GenerationalHandle) → (close_window r window).outcome
+      ≡ Accepted
       → window_closed window r ≡ (close_window r window).registry
   -- RULES.md, Counter table: A closes while it holds a pointer (contact 9), B another (PRIMARY): the view's single
   -- field empties, B's map entry remains

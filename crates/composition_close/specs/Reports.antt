@@ -32,7 +32,8 @@ listed_if had x = cond had (entry_of x ∷ []) []
 
 -- the composition, the capture, the focus: each that the panel had, in this order
 abbrev pub release_list : Bool → Bool → Bool → List ReleasedInput
-release_list ime capture focus = listed_if ime ImeComposition ++ (listed_if capture PointerCapture ++ listed_if focus Focus)
+release_list ime capture focus = listed_if ime ImeComposition ++ (listed_if capture PointerCapture
+    ++ listed_if focus Focus)
 
 abbrev pub no_report : SurfaceCloseReport
 no_report = record { surface = handle_of 0 0; releases = packed releases []; restored_focus = None; revision = 0 }

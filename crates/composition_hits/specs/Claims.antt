@@ -19,4 +19,5 @@ pub record HitClaims : Type 0 where
   -- an accepted test leaves everything behind the front part untouched
   pub accepted : (r : CompositionRegistry) (view : GenerationalHandle) (p : Point) (old : List ℕ)
       → hit_test_refusal r view (length old) ≡ Accepted
-      → buffer_after r view p old ≡ numbers_of (view_hits r view p) ++ drop (length (numbers_of (view_hits r view p))) old
+      → buffer_after r view p old ≡ numbers_of (view_hits r view p)
+      ++ drop (length (numbers_of (view_hits r view p))) old

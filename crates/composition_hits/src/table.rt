@@ -1,7 +1,7 @@
 // The hits of a view as a table, for the calls that hand them on.
 ghost use Rattle.std.specs.Prelude.{◌≡◌, ◌++◌, ◌<◌, length};
 ghost use Rattle.lists.specs.Tables.{entries_of, packed, pushed};
-ghost use Rattle.records.specs.Traces.{hits as stateHits};
+ghost use Rattle.records.specs.Traces.{hits as state_hits};
 ghost use Rattle.view_panels.specs.Panels.{standing};
 ghost use Rattle.composition_hits.specs.HitTest.{hits_among, listed_if, view_hits};
 
@@ -14,7 +14,7 @@ use view_panels::{ViewPanels, gather};
 
 fn push(hits: Hits, surface: GenerationalHandle) -> Hits
     requires { hits.len < 16 }
-    ensures { result ≡ pushed stateHits hits surface }
+    ensures { result ≡ pushed state_hits hits surface }
 {
     let at = hits.len;
     let mut next = hits;
@@ -24,9 +24,9 @@ fn push(hits: Hits, surface: GenerationalHandle) -> Hits
 }
 
 fn push_if(hits: Hits, surface: GenerationalHandle, is_hit: bool) -> Hits
-    requires hits_value { hits ≡ packed stateHits (entries_of stateHits hits) }
-    requires hits_len_bound { length (entries_of stateHits hits) < 16 }
-    ensures { result ≡ packed stateHits (entries_of stateHits hits ++ listed_if is_hit surface) }
+    requires hits_value { hits ≡ packed state_hits (entries_of state_hits hits) }
+    requires hits_len_bound { length (entries_of state_hits hits) < 16 }
+    ensures { result ≡ packed state_hits (entries_of state_hits hits ++ listed_if is_hit surface) }
 {
     if is_hit {
         return push(hits, surface);
@@ -36,7 +36,7 @@ fn push_if(hits: Hits, surface: GenerationalHandle, is_hit: bool) -> Hits
 
 // The panels under a point, topmost first.
 pub fn list_hits(panels: ViewPanels, point: Point) -> Hits
-    ensures { result ≡ packed stateHits (hits_among point (standing panels)) }
+    ensures { result ≡ packed state_hits (hits_among point (standing panels)) }
 {
     let layers = panels.layers;
     let found = panels.records;
@@ -53,7 +53,7 @@ pub fn list_hits(panels: ViewPanels, point: Point) -> Hits
 
 // The panels under a point of a view, topmost first. The caller has tested the registry and the view.
 pub fn view_hits(registry: CompositionRegistry, view: GenerationalHandle, point: Point) -> Hits
-    ensures { result ≡ packed stateHits (view_hits registry view point) }
+    ensures { result ≡ packed state_hits (view_hits registry view point) }
 {
     let records = registry.surfaces.records;
     list_hits(gather(records, layers_of(registry.views, view)), point)

@@ -127,7 +127,8 @@ taken_at views device generation i =
     []
 
 unfoldable pub device_captures : ViewTable → ℕ → ℕ → List Capture
-device_captures views device generation = iter_below (λ i l. l ++ taken_at views device generation i) (view_slots views) []
+device_captures views device generation = iter_below (λ i l. l
+    ++ taken_at views device generation i) (view_slots views) []
 
 abbrev pub cleared_at : ℕ → ℕ → ℕ → ViewTable → ViewTable
 cleared_at device generation i t =

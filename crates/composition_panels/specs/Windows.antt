@@ -48,7 +48,8 @@ abbrev pub new_window : CompositionRegistry → Allocation
 new_window r = allocated r.windows r.first_generation
 
 unfoldable pub create_window : CompositionRegistry → Created
-create_window r = created (new_window r).handle (settled (create_window_refusal r) r (with_windows (new_window r).arena r))
+create_window r = created (new_window r).handle (settled (create_window_refusal r) r (with_windows
+    (new_window r).arena r))
 
 -- ---- close window
 -- a live view that stands in a window

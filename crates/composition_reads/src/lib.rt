@@ -4,7 +4,7 @@
 
 ghost use Rattle.std.specs.Prelude.{◌≡◌, [], map, ◌<◌};
 ghost use Rattle.lists.specs.Tables.{entries_of, packed, pushed};
-ghost use Rattle.records.specs.Layers.{layers as stateLayers};
+ghost use Rattle.records.specs.Layers.{layers as state_layers};
 ghost use Rattle.records.specs.Surfaces.{descriptor_of};
 ghost use Rattle.composition_reads.specs.Reads.{view_read_refusal, surface_read_refusal, view_read, surface_read, traces_read, view_window, view_metrics, view_input_state, view_pointer_captures, descriptors, view_layers, surface_descriptor};
 
@@ -172,7 +172,7 @@ impl Descriptors {
 
 // The descriptor of each layer.
 fn describe(surfaces: SurfaceTable, layers: Layers) -> Descriptors
-    ensures { result ≡ packed descriptors (map (descriptor_of surfaces) (entries_of stateLayers layers)) }
+    ensures { result ≡ packed descriptors (map (descriptor_of surfaces) (entries_of state_layers layers)) }
 {
     let mut next = Descriptors::new();
     let n = layers.count();

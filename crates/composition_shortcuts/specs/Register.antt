@@ -69,7 +69,8 @@ register_refusal r surface new expected =
     (all (is_fit (descriptor_of r.surfaces surface).input) (entries_of registrations new))) NotInteractive)
     (refusal_if (not (fits surface.index new r.shortcuts)) PortLimit)))))
 
-unfoldable pub register_surface_system_shortcut_set : CompositionRegistry → GenerationalHandle → Registrations → ℕ → Changed
+unfoldable pub register_surface_system_shortcut_set : CompositionRegistry → GenerationalHandle → Registrations → ℕ
+    → Changed
 register_surface_system_shortcut_set r surface new expected =
     settled (register_refusal r surface new expected) r (with_shortcuts (replaced surface.index new r.shortcuts) r)
 

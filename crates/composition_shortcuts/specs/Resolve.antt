@@ -40,6 +40,7 @@ abbrev pub winner : ViewTable → SurfaceTable → GenerationalHandle → ℕ �
 winner views surfaces view mask l = winner_of (best_among views surfaces view mask l)
 
 -- of any registrations, for an event in a view
-unfoldable pub resolve_system_shortcut : ViewTable → SurfaceTable → GenerationalHandle → ℕ → List SlotShortcut → Resolved
+unfoldable pub resolve_system_shortcut : ViewTable → SurfaceTable → GenerationalHandle → ℕ → List SlotShortcut
+    → Resolved
 resolve_system_shortcut views surfaces view mask l =
     resolved_with (own_view_refusal views.arena surfaces mask l) (winner views surfaces view mask l)

@@ -104,7 +104,8 @@ fn push(shortcuts: Shortcuts, entry: SlotShortcut) -> Shortcuts
 // The table with the list put after its own entries, each with the slot.
 fn extend(shortcuts: Shortcuts, slot: u32, registrations: Registrations) -> Shortcuts
     requires shortcuts_value { shortcuts ≡ packed stored (entries_of stored shortcuts) }
-    requires registrations_len_bound { length (entries_of stored shortcuts) + length (entries_of given registrations) ≤ 256 }
+    requires registrations_len_bound { length (entries_of stored shortcuts)
+        + length (entries_of given registrations) ≤ 256 }
     ensures { result ≡ packed stored
         (entries_of stored shortcuts ++ map (with_slot slot) (entries_of given registrations)) }
 {

@@ -37,7 +37,7 @@ use Rattle.composition_shortcuts.specs.declared.register.Registrations.{Registra
 use Rattle.composition_shortcuts.specs.Register.{registrations, is_fit, fits, register_refusal, register_surface_system_shortcut_set, registration_list, of_mask}
 use Rattle.composition_arbitration.specs.Arbitration.{own_hits, resolution, arbitrate_refusal, concluded, arbitrated}
 use Rattle.composition_close.specs.Close.{close_refusal, slot_refusal, close_settled, close_after, close_surface}
-use Rattle.composition_close.specs.Detach.{own_view as panelView}
+use Rattle.composition_close.specs.Detach.{own_view as panel_view}
 use Rattle.composition_close.specs.Shutdown.{is_over, is_any_exhausted, shutdown_refusal, shut_down, shutdown_after, shutdown_of}
 use Rattle.calls.specs.declared.call.PanelCall.{PanelCall}
 use Rattle.calls.specs.declared.call.PanelCall.TheVariants as panel
@@ -149,7 +149,7 @@ module _ (r : CompositionRegistry) (s : is_sound r ≡ true) where
 
   pub close_surface_clear : (h : GenerationalHandle) → Clear (close_surface r h).outcome
   unfolding close_surface
-  close_surface_clear h = close_clear h (close_refusal r h) (then_clear (damage r s) (then_clear (panel_at_lem r h) (view_at_lem r (panelView r.surfaces h))))
+  close_surface_clear h = close_clear h (close_refusal r h) (then_clear (damage r s) (then_clear (panel_at_lem r h) (view_at_lem r (panel_view r.surfaces h))))
 
   pub shut_down_clear : Clear (shutdown_of r).outcome
   unfolding shutdown_of

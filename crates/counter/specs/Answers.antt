@@ -10,7 +10,7 @@ use Rattle.release_lists.specs.Captures.{capture_list}
 use Rattle.composition_arbitration.specs.declared.arbitrate.ArbitrationResult.{ArbitrationResult}
 use Rattle.composition_close.specs.declared.answer.CompositionShutdownReport.{CompositionShutdownReport}
 use Rattle.composition_close.specs.declared.answer.SurfaceCloseReport.{SurfaceCloseReport}
-use Rattle.composition_close.specs.Reports.{no_report as notClosed, no_shutdown}
+use Rattle.composition_close.specs.Reports.{no_report as not_closed, no_shutdown}
 use Rattle.release_lists.specs.declared.releases.Releases.{Releases}
 use Rattle.release_lists.specs.Releases.{releases}
 use Rattle.input_releases.specs.declared.answer.PlatformInputRoutingReport.{PlatformInputRoutingReport}
@@ -24,17 +24,17 @@ use Rattle.counter.specs.declared.answer.Answer.{Answer}
 use Rattle.counter.specs.declared.answer.Listed.{Listed}
 
 unfoldable pub nothing_listed : Listed
-nothing_listed = record { captures = packed capture_list []; closed = notClosed; shutdown = no_shutdown }
+nothing_listed = record { captures = packed capture_list []; closed = not_closed; shutdown = no_shutdown }
 
 -- the captures of a device, the report of a panel's close, and that of a shutdown
 unfoldable pub captures_listed : CaptureList → Listed
-captures_listed l = record { captures = l; closed = notClosed; shutdown = no_shutdown }
+captures_listed l = record { captures = l; closed = not_closed; shutdown = no_shutdown }
 
 unfoldable pub close_listed : SurfaceCloseReport → Listed
 close_listed x = record { captures = packed capture_list []; closed = x; shutdown = no_shutdown }
 
 unfoldable pub shutdown_listed : CompositionShutdownReport → Listed
-shutdown_listed x = record { captures = packed capture_list []; closed = notClosed; shutdown = x }
+shutdown_listed x = record { captures = packed capture_list []; closed = not_closed; shutdown = x }
 
 -- of a report, the part that an arbitration answers, and the part that a router release answers
 unfoldable pub arbitration_alone : ArbitrationResult → PlatformInputRoutingReport

@@ -140,6 +140,7 @@ fn from_read(counter: Counter, done: ReadStepped) -> Stepped
     Stepped { answer, counter }
 }
 
+#[inline(never)]
 fn close_step(counter: Counter, call: CloseCall) -> Stepped
     ensures { result ≡ close_step counter call }
 {
@@ -154,6 +155,7 @@ fn close_step(counter: Counter, call: CloseCall) -> Stepped
 }
 
 // Also for a host that routes without the other calls.
+#[inline(never)]
 pub fn router_step(counter: Counter, call: RouterCall) -> Stepped
     ensures { result ≡ router_step counter call }
 {
@@ -170,18 +172,21 @@ pub fn router_step(counter: Counter, call: RouterCall) -> Stepped
     }
 }
 
+#[inline(never)]
 fn panel_call(counter: Counter, call: PanelCall) -> Stepped
     ensures { result ≡ from_registry (panel_step counter.registry call) counter.router }
 {
     from_registry(panel_step(counter.registry, call), counter.router)
 }
 
+#[inline(never)]
 fn input_call(counter: Counter, call: InputCall) -> Stepped
     ensures { result ≡ from_registry (input_step counter.registry call) counter.router }
 {
     from_registry(input_step(counter.registry, call), counter.router)
 }
 
+#[inline(never)]
 fn device_call(counter: Counter, given: DeviceArguments) -> Stepped
     ensures { result ≡ from_captures
         (release_device_pointer_captures counter.registry given.device given.device_generation)
@@ -193,6 +198,7 @@ fn device_call(counter: Counter, given: DeviceArguments) -> Stepped
     )
 }
 
+#[inline(never)]
 fn shortcut_call(counter: Counter, call: ShortcutCall, registrations: Registrations) -> Stepped
     ensures { result ≡ from_registry (shortcut_step counter.registry call registrations) counter.router }
 {
@@ -202,6 +208,7 @@ fn shortcut_call(counter: Counter, call: ShortcutCall, registrations: Registrati
     )
 }
 
+#[inline(never)]
 fn arbitrate_call(counter: Counter, given: ArbitrateArguments, hits: Hits) -> Stepped
     ensures { result ≡ from_arbitrated (arbitrated counter.registry given.view given.event hits)
         counter.router }
@@ -213,13 +220,14 @@ fn arbitrate_call(counter: Counter, given: ArbitrateArguments, hits: Hits) -> St
     )
 }
 
+#[inline(never)]
 fn read_call(counter: Counter, call: ReadCall) -> Stepped
     ensures { result ≡ from_read counter (read_step counter.registry counter.router call) }
 {
     from_read(counter, read_step(counter.registry, counter.router, call))
 }
 
-// Each group of calls has a function of its own, so that their states do not stand on the stack together.
+// Each group of calls has a function of its own, not inlined, so that their states do not stand on the stack together.
 pub fn step(counter: Counter, call: Call, lists: Lists) -> Stepped
     ensures { result ≡ stepped counter call lists }
 {

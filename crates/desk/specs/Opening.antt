@@ -13,7 +13,7 @@ use Rattle.records.specs.declared.surface.SurfaceKind.TheVariants.{Ui}
 use Rattle.composition_state.specs.Start.{started}
 use Rattle.records.specs.Traces.{hits}
 use Rattle.composition_shortcuts.specs.Register.{registrations}
-use Rattle.input_router.specs.Router.{started as routerStarted}
+use Rattle.input_router.specs.Router.{started as router_started}
 use Rattle.calls.specs.declared.call.Call.TheVariants.{Panel, Read}
 use Rattle.calls.specs.declared.call.Lists.{Lists}
 use Rattle.calls.specs.declared.call.PanelCall.{PanelCall}
@@ -45,7 +45,7 @@ port_limits =
 -- session 0.1 of epoch 1, at the port's limits, and a router of 128 presses
 unfoldable pub start_counter : Counter
 start_counter =
-    record { registry = (started (handle_of 0 1) 1 port_limits 0 1).registry; router = (routerStarted 128).router }
+    record { registry = (started (handle_of 0 1) 1 port_limits 0 1).registry; router = (router_started 128).router }
 
 -- a refused call has made nothing
 abbrev pub handle_from : OptionalHandle → GenerationalHandle

@@ -38,7 +38,7 @@ use Rattle.input_router.specs.declared.router.PlatformInputRouter.{PlatformInput
 use Rattle.input_router.specs.declared.view_releases.OptionalBinding.TheVariants.{None}
 use Rattle.input_router.specs.Damage.{is_router_sound}
 use Rattle.release_lists.specs.Releases.{releases, add_captures}
-use Rattle.input_router.specs.Releases.{is_of_device as isOfRouterDevice, device_presses, without_device as routerWithout}
+use Rattle.input_router.specs.Releases.{is_of_device as is_of_router_device, device_presses, without_device as router_without}
 use Rattle.input_router.specs.Router.{presses_of}
 use Rattle.input_router.specs.ViewReleases.{is_closed, closed_binding, first_closed, is_of_view, release_view}
 use Rattle.input_router.proofs.ClaimLaws as router
@@ -100,10 +100,10 @@ module _ (l : Lists) (r : CompositionRegistry) (t : PlatformInputRouter) (b : Bo
         entries_packed capture_list _ ∙ ap (λ (o : Outcome). cond (is_accepted o) m []) q ∙ (registry.claims).device_list r b d.value d.generation u j.shared.agrees
 
     -- the router's presses of the device are the book's, and so are the others
-    taken_presses : keep (isOfRouterDevice d) (presses_of t) ≡ keep (is_of_device d) b.presses
+    taken_presses : keep (is_of_router_device d) (presses_of t) ≡ keep (is_of_device d) b.presses
     taken_presses = λ i. keep (of_device d i) (j.own.presses i)
 
-    other_presses : keep (λ x. not (isOfRouterDevice d x)) (presses_of t) ≡ keep (λ x. not (is_of_device d x)) b.presses
+    other_presses : keep (λ x. not (is_of_router_device d x)) (presses_of t) ≡ keep (λ x. not (is_of_device d x)) b.presses
     other_presses = λ i. keep (λ x. not (of_device d i x)) (j.own.presses i)
 
     disconnect_after_lem : (o : Outcome) → (release_device_pointer_captures r d.value d.generation).outcome ≡ o
@@ -112,12 +112,12 @@ module _ (l : Lists) (r : CompositionRegistry) (t : PlatformInputRouter) (b : Bo
     disconnect_after_lem Accepted q a =
         let x = release_device_pointer_captures r d.value d.generation in
         let listed = releases_are r t b s j (is_of_device d) (is_held_by_device d) (entries_of bindings (device_presses t d)) (entries_of capture_list x.released)
-        (entries_packed bindings (keep (isOfRouterDevice d) (presses_of t)) ∙ taken_presses) (captures_are q) in
-        accepted (route_entry l e (disconnect_after x t d Accepted)) b (at x.registry (routerWithout t d)) refl (rw is listed)
+        (entries_packed bindings (keep (is_of_router_device d) (presses_of t)) ∙ taken_presses) (captures_are q) in
+        accepted (route_entry l e (disconnect_after x t d Accepted)) b (at x.registry (router_without t d)) refl (rw is listed)
         (ap (none_twice is_same_release) listed ∙ all_once r t b s j (is_of_device d) (is_held_by_device d)) (rw is (presses_once r t b s j (is_of_device d) (is_held_by_device d)))
-        (subst (Joined none (at x.registry (routerWithout t d))) (sym (route_noted l e _ b (device d) leaves is (quiet _)))
-        (joined_without r t b s j (is_of_device d) (is_held_by_device d) x.registry (routerWithout t d) ((registry.claims).device r b d.value d.generation u j.shared.agrees q)
-        (entries_packed bindings (keep (λ y. not (isOfRouterDevice d y)) (presses_of t)) ∙ other_presses)))
+        (subst (Joined none (at x.registry (router_without t d))) (sym (route_noted l e _ b (device d) leaves is (quiet _)))
+        (joined_without r t b s j (is_of_device d) (is_held_by_device d) x.registry (router_without t d) ((registry.claims).device r b d.value d.generation u j.shared.agrees q)
+        (entries_packed bindings (keep (λ y. not (is_of_router_device d y)) (presses_of t)) ∙ other_presses)))
     disconnect_after_lem (Refused y) q a = absurd (a.not_21 (ap error_number (device_last r u.sound d valid y q)))
 
     pub disconnect_goes : RouteGoes l b e (routed_disconnect r t d)

@@ -27,7 +27,7 @@ use Rattle.composition_soundness.proofs.CaseLaws.{status_live, refused≢accepte
 use Rattle.input_events.specs.declared.error.PlatformInputError.{PlatformInputError}
 use Rattle.input_events.specs.declared.error.RouterOutcome.TheVariants.{Accepted}
 use Rattle.input_events.specs.declared.event.PlatformInputEvent.{PlatformInputEvent}
-use Rattle.input_events.specs.Checks.{device_refusal as deviceCheck, header_refusal_in, header_refusal, payload_refusal, event_refusal}
+use Rattle.input_events.specs.Checks.{device_refusal as device_check, header_refusal_in, header_refusal, payload_refusal, event_refusal}
 use Rattle.input_events.specs.RouterErrors.{from_composition}
 use Rattle.input_router.specs.declared.router.PlatformInputRouter.{PlatformInputRouter}
 use Rattle.release_lists.specs.Releases.{releases}
@@ -70,12 +70,12 @@ module _ (l : Lists) where
 module _ (r : CompositionRegistry) (e : PlatformInputEvent) (h : event_refusal r.views e ≡ Accepted) where
   pub device_seen : device_valid e.header.device ≡ true
   unfolding event_refusal
-  device_seen = not-false (device_valid e.header.device) (if_accepted (not (device_valid e.header.device)) _ (then_first (deviceCheck e.header.device) _ h))
+  device_seen = not-false (device_valid e.header.device) (if_accepted (not (device_valid e.header.device)) _ (then_first (device_check e.header.device) _ h))
 
   pub view_seen : view_status r.views e.header.view ≡ Live
   unfolding event_refusal header_refusal_in
   view_seen =
-      let header = then_first (header_refusal r.views e.header) (payload_refusal e.payload) (then_last (deviceCheck e.header.device) _ h) in
+      let header = then_first (header_refusal r.views e.header) (payload_refusal e.payload) (then_last (device_check e.header.device) _ h) in
       status_live (view_status r.views e.header.view) _ _ (from_accepted (view_refusal r.views e.header.view) (then_first (from_composition (view_refusal r.views e.header.view)) _ header))
 
 -- ---- the calls inside a disconnect and a view's loss are refused by 21 alone

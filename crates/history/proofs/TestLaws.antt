@@ -21,7 +21,7 @@ use Rattle.maps.specs.declared.keys.InputDeviceId.{InputDeviceId}
 use Rattle.maps.proofs.ClaimLaws as map
 use Rattle.maps.proofs.MapTableLaws.{keys}
 use Rattle.release_lists.specs.Releases.{is_on, is_pair}
-use Rattle.input_router.specs.Releases.{is_of_device as isOfRouterDevice}
+use Rattle.input_router.specs.Releases.{is_of_device as is_of_router_device}
 use Rattle.book.specs.Ids.{is_same_handle, handle_before, is_same_device, press_device, is_same_press, press_before}
 use Rattle.book.specs.Book.{Held, Book, key_of, held_place, place_before, is_held_by_device, is_held_both, with_capture, is_of_device, is_on_panel}
 use Rattle.book.specs.Owed.{is_same_release, cancel_of}
@@ -93,7 +93,7 @@ device_same_lem d (Pointer p) = refl
 device_same_lem d (Key k) = refl
 device_same_lem d (Gamepad e) = refl
 
-pub of_device : (d : InputDeviceId) → isOfRouterDevice d ≡ is_of_device d
+pub of_device : (d : InputDeviceId) → is_of_router_device d ≡ is_of_device d
 of_device d = λ i x. sym (device_same_lem d x.key) i
 
 pub on_panel : is_on ≡ is_on_panel

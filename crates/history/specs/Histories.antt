@@ -9,7 +9,7 @@ use Rattle.composition_state.specs.Start.{started}
 use Rattle.records.specs.Traces.{deliveries}
 use Rattle.input_events.specs.RouterErrors.{router_number_of}
 use Rattle.release_lists.specs.Releases.{releases}
-use Rattle.input_router.specs.Router.{started as routerStarted}
+use Rattle.input_router.specs.Router.{started as router_started}
 use Rattle.book.specs.Book.{Asked, Told, Book}
 use Rattle.book.specs.Notes.{note}
 use Rattle.counter.specs.declared.answer.Answer.{Answer}
@@ -29,7 +29,7 @@ pub record Start : Type 0 where
 abbrev pub fresh : Start → Counter
 fresh s = record {
   registry = (started s.session s.epoch s.limits s.revision s.generation).registry;
-  router = (routerStarted s.bindings).router;
+  router = (router_started s.bindings).router;
 }
 
 -- a call with its lists on a counter: `stepped` is the definition that `step` is proved equal to

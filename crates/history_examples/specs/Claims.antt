@@ -123,25 +123,30 @@ pub record DeskExample : Type 0 where
   pub are_met : met (entries desk_start desk_calls) ≡ true ∷ true ∷ true ∷ true ∷ []
   pub answers : numbers desk_start desk_calls ≡ 0 ∷ 0 ∷ 0 ∷ 0 ∷ 0 ∷ 0 ∷ 32 ∷ 0 ∷ 0 ∷ 0 ∷ 0 ∷ 0 ∷ 0 ∷ 0 ∷ []
   pub releases : lists desk_start desk_calls
-      ≡ no_press ∷ no_press ∷ no_press ∷ no_press ∷ no_press ∷ (key seat_map ∷ finger 7 1 9 seat_map ∷ []) ∷ no_press ∷ no_press
+      ≡ no_press ∷ no_press ∷ no_press ∷ no_press ∷ no_press ∷ (key seat_map ∷ finger 7 1 9 seat_map ∷ []) ∷ no_press
+      ∷ no_press
       ∷ no_press ∷ no_press ∷ no_press ∷ no_press ∷ (key pay_sheet ∷ []) ∷ no_press ∷ []
   pub presses : press_books desk_start desk_calls
-      ≡ no_press ∷ no_press ∷ no_press ∷ (key seat_map ∷ []) ∷ (key seat_map ∷ []) ∷ no_press ∷ no_press ∷ (key seat_map ∷ [])
+      ≡ no_press ∷ no_press ∷ no_press ∷ (key seat_map ∷ []) ∷ (key seat_map ∷ []) ∷ no_press ∷ no_press
+      ∷ (key seat_map ∷ [])
       ∷ (key seat_map ∷ []) ∷ (key pay_sheet ∷ []) ∷ (key pay_sheet ∷ []) ∷ (key pay_sheet ∷ []) ∷ no_press ∷ no_press
       ∷ []
   pub captures : capture_books desk_start desk_calls
-      ≡ no_capture ∷ no_capture ∷ no_capture ∷ no_capture ∷ (grip 9 (handle_at 0 3) seat_map ∷ []) ∷ no_capture ∷ no_capture
+      ≡ no_capture ∷ no_capture ∷ no_capture ∷ no_capture ∷ (grip 9 (handle_at 0 3) seat_map ∷ []) ∷ no_capture
+      ∷ no_capture
       ∷ no_capture ∷ no_capture ∷ no_capture ∷ no_capture ∷ no_capture ∷ no_capture ∷ no_capture ∷ []
 
 -- ---- each premise is needed: on these lists the three others are met, and the claim fails
 -- a shutdown lets a capture go that the book keeps; the device's disconnect afterwards does not list it
 abbrev pub shutdown_calls : List Asked
-shutdown_calls = open_window ∷ open_view (handle_at 0 1) ∷ attach 1 0 ∷ capture (handle_at 0 1) 8 ∷ shutdown ∷ open_window
+shutdown_calls = open_window ∷ open_view (handle_at 0 1) ∷ attach 1 0 ∷ capture (handle_at 0 1) 8 ∷ shutdown
+    ∷ open_window
     ∷ open_view (handle_at 0 2) ∷ event 2 1 DeviceDisconnected ∷ []
 
 -- the revision is at its end: a view's loss refused 21 has dropped the key unlisted
 abbrev pub last_revision_calls : List Asked
-last_revision_calls = open_window ∷ open_view (handle_at 0 1) ∷ attach 1 0 ∷ event 1 1 key_down ∷ event 1 2 focus_lost ∷ []
+last_revision_calls = open_window ∷ open_view (handle_at 0 1) ∷ attach 1 0 ∷ event 1 1 key_down ∷ event 1 2 focus_lost
+    ∷ []
 
 abbrev pub last_generation : ℕ
 last_generation = 4294967295
@@ -149,7 +154,8 @@ last_generation = 4294967295
 -- generations are at their end: a close refused 22 has let the capture go, and the disconnect does not list it
 abbrev pub last_generation_calls : List Asked
 last_generation_calls =
-    open_window ∷ open_view (handle_at 0 last_generation) ∷ attach last_generation 0 ∷ capture (handle_at 0 last_generation) 8
+    open_window ∷ open_view (handle_at 0 last_generation) ∷ attach last_generation 0
+    ∷ capture (handle_at 0 last_generation) 8
     ∷ close (handle_at 0 last_generation)
     ∷ event last_generation 1 DeviceDisconnected ∷ []
 
@@ -163,11 +169,13 @@ pub record PremisesNeeded : Type 0 where
   pub shutdown_met : met (entries (start_at 5 1) shutdown_calls) ≡ false ∷ true ∷ true ∷ true ∷ []
   pub shutdown_answers : numbers (start_at 5 1) shutdown_calls ≡ 0 ∷ 0 ∷ 0 ∷ 0 ∷ 0 ∷ 0 ∷ 0 ∷ 0 ∷ []
   pub shutdown_fails : NothingLost (start_at 5 1) shutdown_calls → ⊥
-  pub last_revision_met : met (entries (start_at 18446744073709551611 1) last_revision_calls) ≡ true ∷ false ∷ true ∷ true
+  pub last_revision_met : met (entries (start_at 18446744073709551611 1) last_revision_calls)
+      ≡ true ∷ false ∷ true ∷ true
       ∷ []
   pub last_revision_answers : numbers (start_at 18446744073709551611 1) last_revision_calls ≡ 0 ∷ 0 ∷ 0 ∷ 0 ∷ 21 ∷ []
   pub last_revision_fails : NothingLost (start_at 18446744073709551611 1) last_revision_calls → ⊥
-  pub last_generation_met : met (entries (start_at 5 last_generation) last_generation_calls) ≡ true ∷ true ∷ false ∷ true
+  pub last_generation_met : met (entries (start_at 5 last_generation) last_generation_calls)
+      ≡ true ∷ true ∷ false ∷ true
       ∷ []
   pub last_generation_answers : numbers (start_at 5 last_generation) last_generation_calls ≡ 0 ∷ 0 ∷ 0 ∷ 0 ∷ 22 ∷ 0 ∷ []
   pub last_generation_fails : NothingLost (start_at 5 last_generation) last_generation_calls → ⊥

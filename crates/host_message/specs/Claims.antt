@@ -18,5 +18,6 @@ pub record RegistrationClaims : Type 0 where
       → registrations_numbers (registrations_of w) ≡ w
   -- so two forms of one list are the same numbers
   pub one_form : (v w : RegistrationsNumbers) → length v.items ≡ 64 → length w.items ≡ 64
-      → all_below (entry_form v) 64 ≡ true → all_below (entry_form w) 64 ≡ true → registrations_of v ≡ registrations_of w → v
+      → all_below (entry_form v) 64 ≡ true → all_below (entry_form w) 64 ≡ true → registrations_of v
+      ≡ registrations_of w → v
       ≡ w

@@ -2,7 +2,7 @@
 ghost use Rattle.std.specs.Prelude.{◌≡◌, length};
 ghost use Rattle.lists.specs.Lists.{first};
 ghost use Rattle.lists.specs.Tables.{entries_of};
-ghost use Rattle.records.specs.Traces.{deliveries as stateDeliveries};
+ghost use Rattle.records.specs.Traces.{deliveries as state_deliveries};
 ghost use Rattle.input_events.specs.Presses.{pointer_of, pointer_press, key_press, press_in, press_of, pointer_effect, key_effect, gamepad_effect, effect_in, effect_of, is_unobserved, delivery_surface, receiver_of};
 
 use crate::event::{
@@ -151,7 +151,7 @@ pub fn effect_of(event: PlatformInputEvent) -> Effect
 }
 
 fn count(deliveries: Deliveries) -> usize
-    ensures { result ≡ length (entries_of stateDeliveries deliveries) }
+    ensures { result ≡ length (entries_of state_deliveries deliveries) }
 {
     let n = deliveries.len;
     if n < 16 {
@@ -167,7 +167,7 @@ fn is_unobserved(delivery: InputDelivery) -> bool
 }
 
 fn first_unobserved(deliveries: Deliveries) -> OptionalHandle
-    ensures { result ≡ delivery_surface (first is_unobserved (entries_of stateDeliveries deliveries)) }
+    ensures { result ≡ delivery_surface (first is_unobserved (entries_of state_deliveries deliveries)) }
 {
     let n = count(deliveries);
     let mut i = 0;

@@ -69,13 +69,15 @@ pub record RouterClaims : Type 0 where
   -- as there are presses, and panels go by handle
   pub all_none_left : (r : PlatformInputRouter) → is_router_sound r ≡ true → presses_of (release_all r).router ≡ []
   pub all_of_panel : (r : PlatformInputRouter) (h : GenerationalHandle) → is_router_sound r ≡ true
-      → keep (is_on h) (entries_of releases (release_all r).releases) ≡ entries_of releases (release_surface r h).releases
+      → keep (is_on h) (entries_of releases (release_all r).releases)
+      ≡ entries_of releases (release_surface r h).releases
   pub all_listed : (r : PlatformInputRouter) → is_router_sound r ≡ true
       → length (entries_of releases (release_all r).releases) ≡ length (presses_of r)
   pub all_by_handle : (r : PlatformInputRouter) → is_router_sound r ≡ true
       → in_panel_order (entries_of releases (release_all r).releases) ≡ true
   -- an accepted view release takes the presses of the view's panels, and leaves the others
-  pub view_accepted : (r : PlatformInputRouter) (t : SurfaceTable) (v : GenerationalHandle) → (release_view r t v).outcome
+  pub view_accepted : (r : PlatformInputRouter) (t : SurfaceTable) (v : GenerationalHandle)
+      → (release_view r t v).outcome
       ≡ Accepted
       → ((release_view r t v).presses ≡ retained bindings (is_of_view t v) r.bindings)
       × ((release_view r t v).router ≡ with_bindings (retained bindings (λ e. not (is_of_view t v e)) r.bindings) r)
@@ -88,4 +90,5 @@ pub record RouterClaims : Type 0 where
       → (release_view r t v).outcome ≡ Refused e → (release_view r t v).presses ≡ packed bindings []
   -- presses are listed first, and every capture's pair of pointer and panel is listed
   pub presses_first : (l : List Binding) (cs : List Capture) → (more : List Binding) × (add_captures l cs ≡ l ++ more)
-  pub captures_listed_lem : (l : List Binding) (cs : List Capture) → all (λ c. is_listed c (add_captures l cs)) cs ≡ true
+  pub captures_listed_lem : (l : List Binding) (cs : List Capture) → all (λ c. is_listed c (add_captures l cs)) cs
+      ≡ true

@@ -24,7 +24,8 @@ pub record LineLengthClaims : Type 0 where
       x.counter shown
   -- a call that shows its number alone, and a line that is no call
   pub plain : (k : Counter) (calls number revision : ℕ) (shown : Bool)
-      → Whole (λ buf. put_all (plain_pieces calls number revision) (buf, 0)) (plain_pieces calls number revision) k shown
+      → Whole (λ buf. put_all (plain_pieces calls number revision) (buf, 0))
+      (plain_pieces calls number revision) k shown
   pub no_call : (k : Counter) (calls revision : ℕ) (shown : Bool)
       → Whole (λ buf. put_all (no_call_pieces calls revision) (buf, 0)) (no_call_pieces calls revision) k shown
   -- the dumps

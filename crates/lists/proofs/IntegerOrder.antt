@@ -44,18 +44,18 @@ connex (negsuc a) (negsuc b) s t = flipped a b s t
 pub integers : Ordered lt_z same_z
 integers = record { same_refl = same_refl; same_eq = same_eq; irrefl = irrefl; trans = trans; connex = connex }
 
-module _ {A B : Type 0} {ltA sameA : A → A → Bool} {ltB sameB : B → B → Bool} (oA : Ordered ltA sameA) (oB : Ordered ltB sameB) where
+module _ {A B : Type 0} {lt_a same_a : A → A → Bool} {lt_b same_b : B → B → Bool} (o_a : Ordered lt_a same_a) (o_b : Ordered lt_b same_b) where
   -- the two ways to order a pair agree
-  agree : (x y : A × B) → lex_lt sameA ltA ltB x y ≡ lex_both ltA ltB x y
-  agree x y = by_test (sameA x.0 y.0)
+  agree : (x y : A × B) → lex_lt same_a lt_a lt_b x y ≡ lex_both lt_a lt_b x y
+  agree x y = by_test (same_a x.0 y.0)
       (λ s.
-      let e = oA.same_eq x.0 y.0 s in
-      let t : ltA x.0 y.0 ≡ false = rw e (oA.irrefl y.0) in
-      let u : ltA y.0 x.0 ≡ false = rw e (oA.irrefl y.0) in
+      let e = o_a.same_eq x.0 y.0 s in
+      let t : lt_a x.0 y.0 ≡ false = rw e (o_a.irrefl y.0) in
+      let u : lt_a y.0 x.0 ≡ false = rw e (o_a.irrefl y.0) in
       simp (s, t, u))
-      (λ s. by_test (ltA x.0 y.0)
+      (λ s. by_test (lt_a x.0 y.0)
       (λ t. simp (s, t))
-      (λ t. let u = oA.connex x.0 y.0 s t in simp (s, t, u)))
+      (λ t. let u = o_a.connex x.0 y.0 s t in simp (s, t, u)))
 
-  pub pairs_both : Ordered (lex_both ltA ltB) (both_same sameA sameB)
-  pairs_both = subst (λ (lt : A × B → A × B → Bool). Ordered lt (both_same sameA sameB)) (fun_ext (λ x. fun_ext (agree x))) (pairs oA oB)
+  pub pairs_both : Ordered (lex_both lt_a lt_b) (both_same same_a same_b)
+  pairs_both = subst (λ (lt : A × B → A × B → Bool). Ordered lt (both_same same_a same_b)) (fun_ext (λ x. fun_ext (agree x))) (pairs o_a o_b)

@@ -20,33 +20,33 @@ number = record {
   connex = λ a b s t. lt-ltb b a (above a b (eqb-false a b s) (ltb-false a b t));
 }
 
-module _ {A B : Type 0} {ltA sameA : A → A → Bool} {ltB sameB : B → B → Bool} (oA : Ordered ltA sameA) (oB : Ordered ltB sameB) where
-  lt_apart : (x y : A) → ltA x y ≡ true → sameA x y ≡ false
-  lt_apart x y t = by_test (sameA x y) (λ s. clash t (rw (oA.same_eq x y s) (oA.irrefl y))) (λ s. s)
+module _ {A B : Type 0} {lt_a same_a : A → A → Bool} {lt_b same_b : B → B → Bool} (o_a : Ordered lt_a same_a) (o_b : Ordered lt_b same_b) where
+  lt_apart : (x y : A) → lt_a x y ≡ true → same_a x y ≡ false
+  lt_apart x y t = by_test (same_a x y) (λ s. clash t (rw (o_a.same_eq x y s) (o_a.irrefl y))) (λ s. s)
 
-  by_first : (x y : A × B) → ltA x.0 y.0 ≡ true → lex_lt sameA ltA ltB x y ≡ true
+  by_first : (x y : A × B) → lt_a x.0 y.0 ≡ true → lex_lt same_a lt_a lt_b x y ≡ true
   by_first x y t = simp (lt_apart x.0 y.0 t, t)
 
-  by_second : (x y : A × B) → x.0 ≡ y.0 → ltB x.1 y.1 ≡ true → lex_lt sameA ltA ltB x y ≡ true
-  by_second x y e t = let s : sameA x.0 y.0 ≡ true = rw e (oA.same_refl y.0) in simp (s, t)
+  by_second : (x y : A × B) → x.0 ≡ y.0 → lt_b x.1 y.1 ≡ true → lex_lt same_a lt_a lt_b x y ≡ true
+  by_second x y e t = let s : same_a x.0 y.0 ≡ true = rw e (o_a.same_refl y.0) in simp (s, t)
 
-  pub pairs : Ordered (lex_lt sameA ltA ltB) (both_same sameA sameB)
+  pub pairs : Ordered (lex_lt same_a lt_a lt_b) (both_same same_a same_b)
   pairs = record {
-    same_refl = λ k. simp (oA.same_refl k.0, oB.same_refl k.1);
-    same_eq = λ a b t. by_test (sameA a.0 b.0)
-        (λ s. let u : sameB a.1 b.1 ≡ true = simp s at t in λ i. (oA.same_eq a.0 b.0 s i, oB.same_eq a.1 b.1 u i))
+    same_refl = λ k. simp (o_a.same_refl k.0, o_b.same_refl k.1);
+    same_eq = λ a b t. by_test (same_a a.0 b.0)
+        (λ s. let u : same_b a.1 b.1 ≡ true = simp s at t in λ i. (o_a.same_eq a.0 b.0 s i, o_b.same_eq a.1 b.1 u i))
         (λ s. clash refl (sym (simp s at t)));
-    irrefl = λ k. simp (oA.same_refl k.0, oB.irrefl k.1);
-    trans = λ a b c t u. by_test (sameA a.0 b.0)
-        (λ p. let e = oA.same_eq a.0 b.0 p in by_test (sameA b.0 c.0)
-        (λ q. by_second a c (e ∙ oA.same_eq b.0 c.0 q) (oB.trans a.1 b.1 c.1 (simp p at t) (simp q at u)))
+    irrefl = λ k. simp (o_a.same_refl k.0, o_b.irrefl k.1);
+    trans = λ a b c t u. by_test (same_a a.0 b.0)
+        (λ p. let e = o_a.same_eq a.0 b.0 p in by_test (same_a b.0 c.0)
+        (λ q. by_second a c (e ∙ o_a.same_eq b.0 c.0 q) (o_b.trans a.1 b.1 c.1 (simp p at t) (simp q at u)))
         (λ q. by_first a c (rw e (simp q at u))))
-        (λ p. by_test (sameA b.0 c.0)
-        (λ q. by_first a c (rw (sym (oA.same_eq b.0 c.0 q)) (simp p at t)))
-        (λ q. by_first a c (oA.trans a.0 b.0 c.0 (simp p at t) (simp q at u))));
-    connex = λ a b s t. by_test (sameA a.0 b.0)
-        (λ p. by_second b a (sym (oA.same_eq a.0 b.0 p)) (oB.connex a.1 b.1 (simp p at s) (simp p at t)))
-        (λ p. by_first b a (oA.connex a.0 b.0 p (simp p at t)));
+        (λ p. by_test (same_a b.0 c.0)
+        (λ q. by_first a c (rw (sym (o_a.same_eq b.0 c.0 q)) (simp p at t)))
+        (λ q. by_first a c (o_a.trans a.0 b.0 c.0 (simp p at t) (simp q at u))));
+    connex = λ a b s t. by_test (same_a a.0 b.0)
+        (λ p. by_second b a (sym (o_a.same_eq a.0 b.0 p)) (o_b.connex a.1 b.1 (simp p at s) (simp p at t)))
+        (λ p. by_first b a (o_a.connex a.0 b.0 p (simp p at t)));
   }
 
 -- the order of what is told apart by a key

@@ -11,14 +11,14 @@ pub record Ordered {K : Type 0} (lt same : K → K → Bool) : Type 0 where
 
 module _ {A B : Type 0} where
   abbrev pub lex_lt : (A → A → Bool) → (A → A → Bool) → (B → B → Bool) → A × B → A × B → Bool
-  lex_lt sameA ltA ltB x y = cond (sameA x.0 y.0) (ltB x.1 y.1) (ltA x.0 y.0)
+  lex_lt same_a lt_a lt_b x y = cond (same_a x.0 y.0) (lt_b x.1 y.1) (lt_a x.0 y.0)
 
   -- the same order, by two tests of the first part
   abbrev pub lex_both : (A → A → Bool) → (B → B → Bool) → A × B → A × B → Bool
-  lex_both ltA ltB x y = cond (ltA x.0 y.0) true (cond (ltA y.0 x.0) false (ltB x.1 y.1))
+  lex_both lt_a lt_b x y = cond (lt_a x.0 y.0) true (cond (lt_a y.0 x.0) false (lt_b x.1 y.1))
 
   abbrev pub both_same : (A → A → Bool) → (B → B → Bool) → A × B → A × B → Bool
-  both_same sameA sameB x y = sameA x.0 y.0 && sameB x.1 y.1
+  both_same same_a same_b x y = same_a x.0 y.0 && same_b x.1 y.1
 
 -- two whole numbers are the same
 abbrev pub same_z : ℤ → ℤ → Bool

@@ -21,6 +21,7 @@ pub record Claims : Type 0 where
   pub one_device : (d e : InputDeviceId) → device_key d ≡ device_key e → d ≡ e
   pub one_binding : (j k : BindingKey) → binding_key j ≡ binding_key k → j ≡ k
   -- RULES.md, Release order: pointers before keys before gamepads
-  pub pointers_first : (p : CompositionPointerId) (k : DeviceKey) → key_lt (binding_key (Pointer p)) (binding_key (Key k))
+  pub pointers_first : (p : CompositionPointerId) (k : DeviceKey)
+      → key_lt (binding_key (Pointer p)) (binding_key (Key k))
       ≡ true
   pub keys_second : (k : DeviceKey) (d : InputDeviceId) → key_lt (binding_key (Key k)) (binding_key (Gamepad d)) ≡ true

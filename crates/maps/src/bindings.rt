@@ -100,7 +100,8 @@ impl Bindings {
     // The map with those entries of another that pass a test put after its own.
     fn extend(self, from: Bindings, test: EntryTest) -> Self
         requires self_value { self ≡ packed bindings (entries_of bindings self) }
-        requires from_len_bound { length (entries_of bindings self) + length (keep (binding_passes test) (entries_of bindings from))
+        requires from_len_bound { length (entries_of bindings self)
+            + length (keep (binding_passes test) (entries_of bindings from))
             ≤ 128 }
         ensures { result ≡ packed bindings
             (entries_of bindings self ++ keep (binding_passes test) (entries_of bindings from)) }

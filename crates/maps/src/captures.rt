@@ -102,7 +102,8 @@ impl PointerCaptures {
     // The map with those entries of another that pass a test put after its own.
     fn extend(self, from: PointerCaptures, test: EntryTest) -> Self
         requires self_value { self ≡ packed captures (entries_of captures self) }
-        requires from_len_bound { length (entries_of captures self) + length (keep (capture_passes test) (entries_of captures from))
+        requires from_len_bound { length (entries_of captures self)
+            + length (keep (capture_passes test) (entries_of captures from))
             ≤ 32 }
         ensures { result ≡ packed captures
             (entries_of captures self ++ keep (capture_passes test) (entries_of captures from)) }

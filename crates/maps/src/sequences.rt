@@ -104,7 +104,8 @@ impl DeviceSequences {
     // The map with those entries of another that pass a test put after its own.
     fn extend(self, from: DeviceSequences, test: KeyTest) -> Self
         requires self_value { self ≡ packed sequences (entries_of sequences self) }
-        requires from_len_bound { length (entries_of sequences self) + length (keep (sequence_passes test) (entries_of sequences from))
+        requires from_len_bound { length (entries_of sequences self)
+            + length (keep (sequence_passes test) (entries_of sequences from))
             ≤ 32 }
         ensures { result ≡ packed sequences
             (entries_of sequences self ++ keep (sequence_passes test) (entries_of sequences from)) }

@@ -12,7 +12,7 @@ use Rattle.calls.specs.declared.call.Call.{Call}
 use Rattle.calls.specs.declared.call.Call.TheVariants.{Router}
 use Rattle.calls.specs.declared.call.Lists.{Lists}
 use Rattle.composition_state.specs.Start.{started}
-use Rattle.input_router.specs.Router.{started as routerStarted}
+use Rattle.input_router.specs.Router.{started as router_started}
 use Rattle.counter.specs.declared.step.Counter.{Counter}
 use Rattle.counter.specs.Step.{stepped, router_step}
 use Rattle.counter_memory.specs.declared.memory.CounterMemory.{CounterMemory}
@@ -34,7 +34,7 @@ use Rattle.nibcobalt.specs.Status.{refusal_of}
 
 -- a counter that was just started
 fresh_of : Start → Counter
-fresh_of s = record { registry = (started s.session s.session_epoch s.limits s.first_revision s.first_generation).registry; router = (routerStarted s.max_active_bindings).router }
+fresh_of s = record { registry = (started s.session s.session_epoch s.limits s.first_revision s.first_generation).registry; router = (router_started s.max_active_bindings).router }
 
 starts : (memory : CounterMemory) (s : Start) → (started_memory memory s).status.number ≡ 0 → counter_of (started_memory memory s).memory ≡ fresh_of s
 unfolding started_memory fresh_of

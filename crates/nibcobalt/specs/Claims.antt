@@ -3,7 +3,7 @@
 use Rattle.std.specs.Prelude.{ℕ, ◌≡◌, List, length}
 use Rattle.calls.specs.declared.call.Lists.{Lists}
 use Rattle.composition_state.specs.Start.{started}
-use Rattle.input_router.specs.Router.{started as routerStarted}
+use Rattle.input_router.specs.Router.{started as router_started}
 use Rattle.counter.specs.declared.step.Stepped.{Stepped}
 use Rattle.counter.specs.Step.{stepped}
 use Rattle.counter_memory.specs.declared.memory.CounterMemory.{CounterMemory}
@@ -30,7 +30,7 @@ pub record HostClaims : Type 0 where
       ≡ record {
         registry = (started s.session s.session_epoch s.limits s.first_revision
             s.first_generation).registry;
-        router = (routerStarted s.max_active_bindings).router;
+        router = (router_started s.max_active_bindings).router;
       }
   -- a message that is a form, with room for the answer, is a step: its answer stands in the buffer, and the memory is
   -- read as the counter that it leaves

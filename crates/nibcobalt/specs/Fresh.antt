@@ -5,7 +5,7 @@ use Rattle.composition_state.specs.declared.registry.Changed.{Changed}
 use Rattle.records.specs.Errors.{number_of}
 use Rattle.composition_state.specs.Start.{started}
 use Rattle.input_router.specs.declared.router.RouterStart.{RouterStart}
-use Rattle.input_router.specs.Router.{started as routerStarted, start_number}
+use Rattle.input_router.specs.Router.{started as router_started, start_number}
 use Rattle.counter_memory.specs.declared.memory.CounterMemory.{CounterMemory}
 use Rattle.counter_memory.specs.Memory.{memory_of}
 use Rattle.nibcobalt.specs.declared.fresh.Start.{Start}
@@ -29,4 +29,4 @@ unfoldable pub started_memory : CounterMemory → Start → Started
 started_memory memory s =
     started_with memory s
     (started s.session s.session_epoch s.limits s.first_revision s.first_generation)
-    (routerStarted s.max_active_bindings)
+    (router_started s.max_active_bindings)

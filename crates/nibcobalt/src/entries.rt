@@ -1,5 +1,5 @@
-// The library's functions on lent memory, which the crate `nibcobalt_c` exports. Each is a function of the modules beside
-// this one with its states lent; what stands behind the references at exit, and the answer, are that function's.
+// The library's functions on lent memory, which the crate `nibcobalt_c` exports. Each is a function of the modules
+// beside this one with its states lent; what stands behind the references at exit, and the answer, are that function's.
 ghost use Rattle.std.specs.Prelude.{◌≡◌};
 ghost use Rattle.nibcobalt.specs.Fresh.{started_memory};
 ghost use Rattle.nibcobalt.specs.Calls.{called};

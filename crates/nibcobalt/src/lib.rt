@@ -1,5 +1,6 @@
-// The library that a host links, by its exports in the crate `nibcobalt_c`: each function of `entries` works on a counter
-// in the host's own memory, altered in place, over a function that takes the memory and what a host hands in by value.
+// The library that a host links, by its exports in the crate `nibcobalt_c`: each function of `entries` works on a
+// counter in the host's own memory, altered in place, over a function that takes the memory and what a host hands in by
+// value.
 
 #![tactic(auto)]
 

@@ -124,7 +124,8 @@ impl Layers {
     // The layers with those of another list that pass a test put after them.
     fn extend(self, from: Layers, records: [SurfaceRecord; 64], test: LayerTest) -> Self
         requires self_value { self ≡ packed layers (entries_of layers self) }
-        requires from_len_bound { length (entries_of layers self) + length (keep (layer_passes records test) (entries_of layers from))
+        requires from_len_bound { length (entries_of layers self)
+            + length (keep (layer_passes records test) (entries_of layers from))
             ≤ 16 }
         ensures { result ≡ packed layers
             (entries_of layers self ++ keep (layer_passes records test) (entries_of layers from)) }
@@ -169,8 +170,7 @@ impl Layers {
     }
 
     // The record of each layer, by its place, and blanks after them: so a loop over the layers reads a small array of
-    // its own,
-    // and hands on no table.
+    // its own, and hands on no table.
     pub fn records_of(self, records: [SurfaceRecord; 64]) -> [SurfaceRecord; 16]
         ensures { result ≡ records_of records self }
     {

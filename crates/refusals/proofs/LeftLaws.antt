@@ -37,9 +37,9 @@ use Rattle.records.specs.Surfaces.{is_interactive, surface_status, descriptor_of
 use Rattle.records.specs.Views.{no_view, view_at, view_slots, with_view, with_pointer_capture, with_pointer_captures}
 use Rattle.composition_state.specs.declared.registry.CompositionRegistry.{CompositionRegistry}
 use Rattle.composition_state.specs.Registry.{with_views}
-use Rattle.composition_input.specs.Captures.{loses_primary as hasPrimary, left_view, cleared_at, device_cleared}
+use Rattle.composition_input.specs.Captures.{loses_primary as has_primary, left_view, cleared_at, device_cleared}
 use Rattle.composition_close.specs.Close.{detached}
-use Rattle.composition_close.specs.Detach.{had_capture, takes_focus as mayFocus, optional, topmost, detached_view}
+use Rattle.composition_close.specs.Detach.{had_capture, takes_focus as may_be_focused, optional, topmost, detached_view}
 use Rattle.input_router.specs.declared.router.PlatformInputRouter.{PlatformInputRouter}
 use Rattle.input_router.specs.declared.view_releases.ViewReleased.{ViewReleased}
 use Rattle.input_router.specs.Releases.{without_device_presses}
@@ -133,7 +133,7 @@ module _ (d : InputDeviceId) where
   abbrev kept_map : ViewRecord → ViewRecord
   kept_map v = with_pointer_captures (retained captures (λ e. not (is_capture_by d e)) v.pointer_captures) v
 
-  primary_kept : (v : ViewRecord) → hasPrimary d.value d.generation v.pointer_captures ≡ loses_primary d v
+  primary_kept : (v : ViewRecord) → has_primary d.value d.generation v.pointer_captures ≡ loses_primary d v
   primary_kept v =
       ap (λ (b : Bool). b && is_same_device primary_device d) (any_found (λ e. is_primary e.pointer) (captures_in v))
 
@@ -207,7 +207,7 @@ moved true x y f e = e
 moved false x y f e = refl
 
 module _ (r : CompositionRegistry) (h : GenerationalHandle) (v : ViewRecord) where
-  may_focus : (at : GenerationalHandle) → mayFocus r.surfaces at ≡ takes_focus r at
+  may_focus : (at : GenerationalHandle) → may_be_focused r.surfaces at ≡ takes_focus r at
   may_focus at =
       takes_is (is_live (surface_status r.surfaces at)) (is_interactive (descriptor_of r.surfaces at).input)
 
@@ -216,7 +216,7 @@ module _ (r : CompositionRegistry) (h : GenerationalHandle) (v : ViewRecord) whe
   unfolding topmost
   topmost_is =
       rw (entries_packed layers _)
-      (handle_is (first (mayFocus r.surfaces) (reverse (layers_but h v)))
+      (handle_is (first (may_be_focused r.surfaces) (reverse (layers_but h v)))
       ∙ λ i. as_handle (first (λ at. may_focus at i) (reverse (layers_but h v))))
 
   field_is : cond (had_capture v h) None v.pointer_capture ≡ field_left h v

@@ -37,7 +37,7 @@ use Rattle.input_events.specs.declared.error.RouterOutcome.{RouterOutcome}
 use Rattle.input_events.specs.declared.error.RouterOutcome.TheVariants.{Accepted, Refused}
 use Rattle.input_events.specs.declared.event.PlatformInputEvent.{PlatformInputEvent}
 use Rattle.input_events.specs.ArbitrationEvents.{arbitration_event, is_disconnect, is_loss}
-use Rattle.input_events.specs.Checks.{device_refusal as idRefusal, header_refusal_in, header_refusal, event_refusal}
+use Rattle.input_events.specs.Checks.{device_refusal as id_refusal, header_refusal_in, header_refusal, event_refusal}
 use Rattle.input_events.specs.RouterErrors.{router_error_number, then_router_refusal, router_refusal_if, from_composition}
 use Rattle.release_lists.specs.declared.releases.Releases.{Releases}
 use Rattle.input_router.specs.declared.router.PlatformInputRouter.{PlatformInputRouter}
@@ -98,10 +98,10 @@ passed c x h =
     let roomed = rest_passed (event_refusal c.registry.views x) _ whole in
     let n = x.header.sequence in
     let time = x.header.timestamp_micros in
-    let header = first_passed (header_refusal c.registry.views x.header) _ (rest_passed (idRefusal x.header.device) _ event) in
+    let header = first_passed (header_refusal c.registry.views x.header) _ (rest_passed (id_refusal x.header.device) _ event) in
     record {
       whole = and_left (is_sound c.registry) (is_router_sound c.router) (test_passed (is_sound c.registry && is_router_sound c.router) error.Damaged (first_passed (damaged_refusal c.registry c.router) _ h));
-      device = test_passed (device_valid x.header.device) error.InvalidDevice (first_passed (idRefusal x.header.device) _ event);
+      device = test_passed (device_valid x.header.device) error.InvalidDevice (first_passed (id_refusal x.header.device) _ event);
       live = status_live (view_status c.registry.views x.header.view) InvalidView StaleView
           (carried_passed (view_refusal c.registry.views x.header.view) (first_passed (from_composition (view_refusal c.registry.views x.header.view)) _ header));
       recorded = (routers.claims).in_order c.router x.header.device n time

@@ -26,7 +26,7 @@ use Rattle.composition_state.specs.Damage.{damage_refusal}
 use Rattle.records.specs.Errors.{is_accepted}
 use Rattle.records.specs.Layers.{layers, is_live, is_layer_of}
 use Rattle.records.specs.Shortcuts.{shortcuts}
-use Rattle.records.specs.Traces.{hits as stateHits, deliveries}
+use Rattle.records.specs.Traces.{hits as state_hits, deliveries}
 use Rattle.records.specs.Views.{view_at, view_status, view_refusal}
 use Rattle.view_panels.specs.Panels.{Panel, panel_in, panels_in}
 use Rattle.composition_state.proofs.SettleLaws.{settled_accepted, then_last}
@@ -108,7 +108,7 @@ module _ (r : CompositionRegistry) (p : Parts r) where
 
     walk_in_open : lookup_of r.views.arena v ≡ Live → all to_open (entries_of deliveries (walk_in r v e (own_hits e hits)).deliveries) ≡ true
     unfolding walk_over
-    walk_in_open l = walk_open (verdict_of (chosen e (view_at r.views v)) (entries_of stateHits (own_hits e hits))) (panels_in r.views r.surfaces v) (layers_open l)
+    walk_in_open l = walk_open (verdict_of (chosen e (view_at r.views v)) (entries_of state_hits (own_hits e hits))) (panels_in r.views r.surfaces v) (layers_open l)
 
     all_open : lookup_of r.views.arena v ≡ Live → all to_open (entries_of deliveries (arbitration r v e hits).deliveries) ≡ true
     all_open l = go (resolution r v e).surface refl

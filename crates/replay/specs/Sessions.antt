@@ -38,7 +38,8 @@ answered_plain calls shown number c buf =
     finished calls shown c (put_all (plain_pieces calls number c.registry.revision) (buf, 0))
 
 unfoldable pub answered_no_call : ℕ → Bool → Counter → List ℕ → List ℕ × Answered
-answered_no_call calls shown c buf = finished calls shown c (put_all (no_call_pieces calls c.registry.revision) (buf, 0))
+answered_no_call calls shown c buf = finished calls shown c (put_all (no_call_pieces calls c.registry.revision)
+    (buf, 0))
 
 abbrev pub answered_start : ℕ → Bool → Started → List ℕ → List ℕ × Answered
 answered_start calls shown x buf = answered_plain calls shown x.number x.counter buf

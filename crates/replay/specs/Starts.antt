@@ -10,7 +10,7 @@ use Rattle.composition_state.specs.Start.{started}
 use Rattle.input_router.specs.declared.router.PlatformInputRouter.{PlatformInputRouter}
 use Rattle.input_router.specs.declared.router.StartOutcome.{StartOutcome}
 use Rattle.input_router.specs.declared.router.StartOutcome.TheVariants as router
-use Rattle.input_router.specs.Router.{started as routerStarted, start_number}
+use Rattle.input_router.specs.Router.{started as router_started, start_number}
 use Rattle.counter.specs.declared.step.Counter.{Counter}
 use Rattle.script_calls.specs.declared.script_call.Start.{Start}
 use Rattle.replay.specs.declared.starts.Started.{Started}
@@ -34,7 +34,7 @@ router_kept router.PortLimit old new = old
 
 unfoldable pub started_router : Counter → ℕ → Started
 started_router c limit =
-    let x = routerStarted limit in
+    let x = router_started limit in
     record {
       number = start_number x.outcome;
       counter = record { registry = c.registry; router = router_kept x.outcome c.router x.router };
@@ -52,5 +52,5 @@ first_counter = record {
         max_surfaces_per_view = 16;
         max_trace_entries = 32;
       }) 0 1).registry;
-  router = (routerStarted 128).router;
+  router = (router_started 128).router;
 }

@@ -35,7 +35,8 @@ unfoldable pub new_at_in : Fields → AskedSession
 new_at_in fs = record {
   call = New (start_at fs (u64_at fs 8).value (u32_at fs 9).value).given;
   fits =
-      has fs 10 && ((start_at fs (u64_at fs 8).value (u32_at fs 9).value).fits && ((u64_at fs 8).fits && (u32_at fs 9).fits));
+      has fs 10 && ((start_at fs (u64_at fs 8).value (u32_at fs 9).value).fits && ((u64_at fs 8).fits
+      && (u32_at fs 9).fits));
 }
 
 -- the limit of a new router

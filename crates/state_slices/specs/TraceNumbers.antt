@@ -26,7 +26,8 @@ events p t mask =
 -- 8 numbers: kind, pointer (3), hit or target (3), mask; a kind past the last is read as Keyboard
 unfoldable pub event_from : List ℕ → ArbitrationEvent
 event_from b =
-    get_or (events (pointer_of (get_or b 1 0) (get_or b 2 0) (get_or b 3 0)) (optional_at b 4) (get_or b 7 0)) (get_or b 0 0) Keyboard
+    get_or (events (pointer_of (get_or b 1 0) (get_or b 2 0) (get_or b 3 0)) (optional_at b 4) (get_or b 7 0))
+    (get_or b 0 0) Keyboard
 
 unfoldable pub handle_from : List ℕ → GenerationalHandle
 handle_from b = handle_of (get_or b 0 0) (get_or b 1 0)

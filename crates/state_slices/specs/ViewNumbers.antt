@@ -75,7 +75,8 @@ view_from b m = record {
 
 abbrev pub view_in : List ℕ → List ℕ → ℕ → ViewRecord
 view_in fixed moving i =
-    view_from (part fixed (views_start + i * view_size) view_size) (part moving (inputs_start + i * input_size) input_size)
+    view_from (part fixed (views_start + i * view_size) view_size) (part moving
+    (inputs_start + i * input_size) input_size)
 
 unfoldable pub views_from : List ℕ → List ℕ → List ViewRecord
 views_from fixed moving = table (view_in fixed moving) 16

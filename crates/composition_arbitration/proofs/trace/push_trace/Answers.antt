@@ -7,7 +7,7 @@ use lib.ListN.{length}
 use Rattle.lists.specs.Tables.{entries_of, packed, pushed}
 use Rattle.lists.proofs.TableLaws.{entry, len_packed}
 use Rattle.records.specs.declared.trace.Traces.{Traces}
-use Rattle.records.specs.Traces.{traces as stateTraces}
+use Rattle.records.specs.Traces.{traces as state_traces}
 use Rattle.records.proofs.TraceLaws.{few}
 use Rattle.composition_arbitration.specs.Trace.{kept_traces}
 use Rattle.composition_arbitration.proofs.TraceLaws.{some_kept, few_kept, part_none, turn, done}
@@ -23,7 +23,7 @@ loop-i-init c =
     let f = c.first_kept-from.result in
     let n = c.count-n.result in
     let is : f ≡ (n + 1) - kept_traces a.limit = kept ∙ rw c.kept_traces.ensures in
-    (omega arith, omega (arith, is, some_kept a.limit), omega (arith, few a.traces c.well_formed.0, c.count-n.ensures), is, c.new-next.ensures ∙ ap (packed stateTraces) (sym (part_none (entries_of stateTraces a.traces) f)), omega (arith, is, few_kept a.limit), omega (arith, ap (λ (t : Traces). t.len) c.new-next.ensures ∙ len_packed stateTraces []))
+    (omega arith, omega (arith, is, some_kept a.limit), omega (arith, few a.traces c.well_formed.0, c.count-n.ensures), is, c.new-next.ensures ∙ ap (packed state_traces) (sym (part_none (entries_of state_traces a.traces) f)), omega (arith, is, few_kept a.limit), omega (arith, ap (λ (t : Traces). t.len) c.new-next.ensures ∙ len_packed state_traces []))
 
 pub loop-i-preserved : goal.loop-i-preserved
 unfolding pushed
@@ -31,9 +31,9 @@ loop-i-preserved c =
     let a = c.args in
     let k = c.loop-i in
     let from = c.first_kept-from.result in
-    let l = entries_of stateTraces a.traces in
+    let l = entries_of state_traces a.traces in
     let within : k.i < length l = omega arith in
-    (omega arith, omega arith, omega arith, k.invariant.3, ap (pushed stateTraces k.next) (sym (entry stateTraces a.traces k.i _ within)) ∙ turn l k.next from k.i k.invariant.4 _ (omega arith) within (omega arith), omega arith, omega arith)
+    (omega arith, omega arith, omega arith, k.invariant.3, ap (pushed state_traces k.next) (sym (entry state_traces a.traces k.i _ within)) ∙ turn l k.next from k.i k.invariant.4 _ (omega arith) within (omega arith), omega arith, omega arith)
 
 pub returns : goal.returns
 unfolding pushed

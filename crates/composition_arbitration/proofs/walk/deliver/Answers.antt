@@ -4,19 +4,19 @@ use mathlib.Core.List.{append-nil}
 use native.Mathlib.Omega.{arith}
 use Rattle.lists.specs.Tables.{pushed}
 use Rattle.lists.proofs.TableLaws.{len_packed, push_packed}
-use Rattle.records.specs.Traces.{deliveries as stateDeliveries}
+use Rattle.records.specs.Traces.{deliveries as state_deliveries}
 use Rattle.records.specs.declared.trace.Deliveries.{Deliveries}
 use Rattle.composition_arbitration.specs.Layers.{delivery_from}
 use Rattle.composition_arbitration.proofs.walk.deliver.Goals as goal
 
 pub push-requires : goal.push-requires
-push-requires c = omega (arith, ap (λ (x : Deliveries). x.len) c.requires.deliveries_value ∙ len_packed stateDeliveries _, c.requires.deliveries_len_bound)
+push-requires c = omega (arith, ap (λ (x : Deliveries). x.len) c.requires.deliveries_value ∙ len_packed state_deliveries _, c.requires.deliveries_len_bound)
 
 pub returns-then-is_delivered : goal.returns-then-is_delivered
 returns-then-is_delivered c =
     let s = c in
     let yes = sym c.is_delivered.ensures ∙ c.if-is_delivered.true in
-    rw (yes, c.push.ensures, c.is_observed.ensures) (ap (λ (x : Deliveries). pushed stateDeliveries x (delivery_from s.args.verdict s.args.surface)) s.requires.deliveries_value ∙ push_packed stateDeliveries _ _ s.requires.deliveries_len_bound)
+    rw (yes, c.push.ensures, c.is_observed.ensures) (ap (λ (x : Deliveries). pushed state_deliveries x (delivery_from s.args.verdict s.args.surface)) s.requires.deliveries_value ∙ push_packed state_deliveries _ _ s.requires.deliveries_len_bound)
 
 pub returns : goal.returns
 returns c =

@@ -5,8 +5,8 @@ use mathlib.Core.Path.{sym, ap, ◌∙◌}
 use lib.ListN.{length}
 use Rattle.lists.specs.Tables.{entries_of}
 use Rattle.handles.specs.declared.OptionalHandle.TheVariants.{Some}
-use Rattle.records.specs.Layers.{layers as stateLayers}
-use Rattle.records.specs.Traces.{hits as stateHits}
+use Rattle.records.specs.Layers.{layers as state_layers}
+use Rattle.records.specs.Traces.{hits as state_hits}
 use Rattle.view_panels.specs.Panels.{Panel}
 use Rattle.view_panels.proofs.PanelLaws.{few, no_panel, standing_length, standing_here}
 use Rattle.composition_arbitration.specs.Layers.{verdict_of, consumes}
@@ -28,10 +28,10 @@ pub returns-then-is_consumed : goal.returns-then-is_consumed
 returns-then-is_consumed c =
     let a = c.args in
     let k = c.loop-left in
-    let within : k.left - 1 < length (entries_of stateLayers a.panels.layers) = omega arith in
+    let within : k.left - 1 < length (entries_of state_layers a.panels.layers) = omega arith in
     let here = standing_here a.panels (k.left - 1) within in
     let told = c.verdict_of-verdict.ensures in
-    let at = verdict_of a.choice (entries_of stateHits a.hits) in
+    let at = verdict_of a.choice (entries_of state_hits a.hits) in
     let asked = ap (λ (p : Panel). consumes (at p)) here ∙ sym (ap consumes told) ∙ sym c.is_consumed.ensures in
     (λ j. record { deliveries = c.deliver-deliveries.result; consumed_by = Some (sym here j).surface })
     ∙ stop at _ _ _ k.invariant.2 (omega arith) no_panel _ (c.deliver-deliveries.ensures ∙ rw (told, here)) (asked ∙ c.if-is_consumed.true)
@@ -40,10 +40,10 @@ pub loop-left-preserved : goal.loop-left-preserved
 loop-left-preserved c =
     let a = c.args in
     let k = c.loop-left in
-    let within : k.left - 1 < length (entries_of stateLayers a.panels.layers) = omega arith in
+    let within : k.left - 1 < length (entries_of state_layers a.panels.layers) = omega arith in
     let here = standing_here a.panels (k.left - 1) within in
     let told = c.verdict_of-verdict.ensures in
-    let at = verdict_of a.choice (entries_of stateHits a.hits) in
+    let at = verdict_of a.choice (entries_of state_hits a.hits) in
     let asked = ap (λ (p : Panel). consumes (at p)) here ∙ sym (ap consumes told) ∙ sym c.is_consumed.ensures in
     (omega arith, k.invariant.1, turn at _ _ _ k.invariant.2 (omega arith) no_panel _ (c.deliver-deliveries.ensures ∙ rw (told, here)) (asked ∙ c.if-is_consumed.false))
 

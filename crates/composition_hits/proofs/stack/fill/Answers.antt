@@ -4,7 +4,7 @@ use Prim.Native.Nat.{◌<◌, ◌-◌}
 use mathlib.Core.Path.{sym, ◌∙◌}
 use lib.ListN.{length}
 use Rattle.lists.specs.Tables.{entries_of}
-use Rattle.records.specs.Layers.{layers as stateLayers}
+use Rattle.records.specs.Layers.{layers as state_layers}
 use Rattle.view_panels.proofs.PanelLaws.{few, no_panel, standing_length, standing_here}
 use Rattle.composition_hits.specs.HitTest.{hits_among}
 use Rattle.composition_hits.proofs.HitLaws.{start, same_long, room_for_two, turn, end_place, end_buffer}
@@ -24,7 +24,7 @@ pub loop-left-preserved : goal.loop-left-preserved
 loop-left-preserved c =
     let p = c.args.panels in
     let k = c.loop-left in
-    let within : k.left - 1 < length (entries_of stateLayers p.layers) = omega arith in
+    let within : k.left - 1 < length (entries_of state_layers p.layers) = omega arith in
     let here = standing_here p (k.left - 1) within in
     let hit = c.is_record_hit-is_hit.ensures in
     let put = c.put_if-at.ensures in

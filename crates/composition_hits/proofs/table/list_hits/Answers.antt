@@ -4,7 +4,7 @@ use mathlib.Core.Path.{sym, ◌∙◌}
 use native.Mathlib.Omega.{arith}
 use lib.ListN.{length}
 use Rattle.lists.specs.Tables.{entries_of}
-use Rattle.records.specs.Layers.{layers as stateLayers}
+use Rattle.records.specs.Layers.{layers as state_layers}
 use Rattle.view_panels.proofs.PanelLaws.{few, no_panel, standing_length, standing_here}
 use Rattle.composition_hits.specs.HitTest.{hits_among}
 use Rattle.composition_hits.proofs.TableLaws.{start, whole, room, turn, done}
@@ -25,7 +25,7 @@ pub loop-left-preserved : goal.loop-left-preserved
 loop-left-preserved c =
     let p = c.args.panels in
     let k = c.loop-left in
-    let within : k.left - 1 < length (entries_of stateLayers p.layers) = omega arith in
+    let within : k.left - 1 < length (entries_of state_layers p.layers) = omega arith in
     (omega arith, k.invariant.1, turn _ _ _ _ k.invariant.2 (omega arith) no_panel _ (c.push_if-hits.ensures ∙ rw (standing_here p (k.left - 1) within, c.is_record_hit-is_hit.ensures)))
 
 pub returns : goal.returns
