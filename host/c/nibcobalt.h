@@ -28,7 +28,7 @@ extern "C" {
  * below, the order or the meaning of the numbers of a call or of an answer, a need of more stack. It stays where only
  * something is added: a function, a call, a kind or a refusal with a number that had none. Header and library are
  * installed together; a program that keeps messages or counters beyond its own run keeps this number with them. */
-#define NIBCOBALT_ABI 1
+#define NIBCOBALT_ABI 2
 
 /* NIBCOBALT_ACCEPTED, a refused start's number, NIBCOBALT_MALFORMED or NIBCOBALT_SHORT_BUFFER; and how many bytes of
  * the buffer are the answer. */
@@ -90,9 +90,9 @@ typedef struct {
 #define NIBCOBALT_ANSWER_BYTES 36864
 
 /* The bytes of stack that each function needs, with all that it calls, but for functions of the C library. */
-#define NIBCOBALT_STACK_START_COUNTER 269344
+#define NIBCOBALT_STACK_START_COUNTER 717488
 #define NIBCOBALT_STACK_CALL 1566992
-#define NIBCOBALT_STACK_ROUTE 951888
+#define NIBCOBALT_STACK_ROUTE 1321792
 
 /* Any call: its number, its fields, zeros behind them; and the lists beside it. */
 typedef struct {

@@ -6,7 +6,7 @@
 use crate::GenerationalHandle;
 
 /// The number of the library's interface, `NIBCOBALT_ABI` of the C header, which says when it rises.
-pub const ABI: u64 = 1;
+pub const ABI: u64 = 2;
 
 /// The status of a message whose numbers are malformed. Nothing is changed then.
 pub const MALFORMED: u64 = 1000;
@@ -14,11 +14,11 @@ pub const MALFORMED: u64 = 1000;
 pub const SHORT_BUFFER: u64 = 1001;
 
 /// The bytes of stack that [`start`] needs in the library.
-pub const STACK_START_COUNTER: usize = 269_344;
+pub const STACK_START_COUNTER: usize = 717_488;
 /// The bytes of stack that [`call`] needs in the library.
 pub const STACK_CALL: usize = 1_566_992;
 /// The bytes of stack that [`route`] needs in the library.
-pub const STACK_ROUTE: usize = 951_888;
+pub const STACK_ROUTE: usize = 1_321_792;
 
 /// The words of a counter's memory that are its registry.
 pub const REGISTRY_WORDS: usize = 5188;
