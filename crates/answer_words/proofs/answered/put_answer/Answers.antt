@@ -11,10 +11,9 @@ use Rattle.answer_words.proofs.answered.put_answer.Goals as goal
 pub returns : goal.returns
 unfolding answer_words answer_placed
 returns c =
-    let early = c in
-    let a = early.args in
+    let a = c.args in
     let more = more_of a.call a.answer a.counter in
-    let own = rw early.named_handle-named.ensures at early.take_answer-end.ensures in
+    let own = rw c.named_handle-named.ensures at c.take_answer-end.ensures in
     c.put_more.ensures
-    ∙ ap (more_placed Words more) (ended Words _ _ _ early.sink_from.ensures own)
+    ∙ ap (more_placed Words more) (ended Words _ _ _ c.sink_from.ensures own)
     ∙ words_put _ more _

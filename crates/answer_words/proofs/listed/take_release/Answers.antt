@@ -4,8 +4,7 @@ use Rattle.answer_words.proofs.listed.take_release.Goals as goal
 
 pub returns : goal.returns
 returns c =
-    let early = c in
-    then _ _ _ (rw early.binding_key.ensures at early.take_released-next.ensures)
+    then _ _ _ (rw c.binding_key.ensures at c.take_released-next.ensures)
     c.take_handle.ensures
 
 pub shape_of-out : goal.shape_of-out

@@ -4,9 +4,8 @@ use Rattle.answer_words.proofs.listed.take_released.Goals as goal
 
 pub returns : goal.returns
 returns c =
-    let early = c in
-    then _ _ _ early.take_u32-a.ensures
-    (then _ _ _ early.take_plain-b.ensures
+    then _ _ _ c.take_u32-a.ensures
+    (then _ _ _ c.take_plain-b.ensures
     (then _ _ _ c.take_u32-c.ensures
     c.take_u32.ensures))
 

@@ -14,12 +14,10 @@ push-requires c = omega (arith, ap (λ (x : Deliveries). x.len) c.requires.deliv
 
 pub returns-then-is_delivered : goal.returns-then-is_delivered
 returns-then-is_delivered c =
-    let s = c in
     let yes = sym c.is_delivered.ensures ∙ c.if-is_delivered.true in
-    rw (yes, c.push.ensures, c.is_observed.ensures) (ap (λ (x : Deliveries). pushed state_deliveries x (delivery_from s.args.verdict s.args.surface)) s.requires.deliveries_value ∙ push_packed state_deliveries _ _ s.requires.deliveries_len_bound)
+    rw (yes, c.push.ensures, c.is_observed.ensures) (ap (λ (x : Deliveries). pushed state_deliveries x (delivery_from c.args.verdict c.args.surface)) c.requires.deliveries_value ∙ push_packed state_deliveries _ _ c.requires.deliveries_len_bound)
 
 pub returns : goal.returns
 returns c =
-    let s = c in
     let no = sym c.is_delivered.ensures ∙ c.if-is_delivered.false in
-    rw (no, append-nil) s.requires.deliveries_value
+    rw (no, append-nil) c.requires.deliveries_value

@@ -15,9 +15,8 @@ use Rattle.composition_arbitration.proofs.walk.walk_layers.Goals as goal
 
 pub loop-left-init : goal.loop-left-init
 loop-left-init c =
-    let begun = c in
-    let p = begun.args.panels in
-    let whole = few p begun.well_formed.0 in
+    let p = c.args.panels in
+    let whole = few p c.well_formed.0 in
     (omega (arith, c.count-left.ensures), whole, rw (c.count-left.ensures, sym (standing_length p)) (start _ _ _ (rw (standing_length p) whole) c.new-deliveries.ensures))
 
 pub deliver-deliveries-requires : goal.deliver-deliveries-requires

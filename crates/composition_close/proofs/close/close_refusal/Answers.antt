@@ -3,5 +3,4 @@ use Rattle.composition_close.proofs.close.close_refusal.Goals as goal
 
 pub returns : goal.returns
 returns c =
-    let c5 = c in
-    rw (c.then-2.ensures, c.then.ensures, c.damage.ensures, c.refusal-live.ensures, c.refusal-own_view.ensures, c5.descriptor-descriptor.ensures)
+    rw (c.then-2.ensures, c.then.ensures, c.damage.ensures, c.refusal-live.ensures, c.refusal-own_view.ensures, c.descriptor-descriptor.ensures)

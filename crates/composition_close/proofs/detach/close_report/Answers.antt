@@ -5,13 +5,12 @@ use Rattle.composition_close.proofs.detach.close_report.Goals as goal
 pub returns : goal.returns
 unfolding close_report
 returns c =
-    let c5 = c in
     rw (
       c.restored_focus-restored.ensures,
       c.of-releases.ensures,
       c.holds-focused.ensures,
       c.had_capture-captured.ensures,
       c.holds-composing.ensures,
-      c5.record-view.ensures,
-      c5.descriptor-descriptor.ensures,
+      c.record-view.ensures,
+      c.descriptor-descriptor.ensures,
     )

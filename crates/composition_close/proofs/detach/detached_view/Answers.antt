@@ -5,15 +5,14 @@ use Rattle.composition_close.proofs.detach.detached_view.Goals as goal
 pub returns : goal.returns
 unfolding detached_view
 returns c =
-    let c5 = c in
     rw (
       c.choose-ime.ensures,
       c.holds-2.ensures,
       c.retain-pointer_captures.ensures,
       c.choose-pointer_capture.ensures,
       c.had_capture-captured.ensures,
-      c5.choose-focus.ensures,
-      c5.holds.ensures,
-      c5.restored_focus-restored.ensures,
-      c5.remove-remaining.ensures,
+      c.choose-focus.ensures,
+      c.holds.ensures,
+      c.restored_focus-restored.ensures,
+      c.remove-remaining.ensures,
     )

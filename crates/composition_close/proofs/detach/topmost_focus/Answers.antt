@@ -14,9 +14,8 @@ loop-i-init c = (omega arith, omega (arith, few c.args.remaining c.well_formed.1
 pub returns-then-takes_focus : goal.returns-then-takes_focus
 unfolding topmost
 returns-then-takes_focus c =
-    let c5 = c in
     let l = c.loop-i in
-    let a = c5.args in
+    let a = c.args in
     sym (ap optional (down_here layers a.remaining (takes_focus a.surfaces) l.i (l.i - 1) _ (omega arith) (omega arith) l.invariant.3 (sym c.takes_focus.ensures ∙ c.if-takes_focus.true)))
 
 pub loop-i-preserved : goal.loop-i-preserved

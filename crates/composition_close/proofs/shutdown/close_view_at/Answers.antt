@@ -7,17 +7,16 @@ use Rattle.composition_close.proofs.shutdown.close_view_at.Goals as goal
 
 pub returns-then-slot : goal.returns-then-slot
 unfolding whole_view_closed
-returns-then-slot c =
-    let c5 = c in (
-      rw (
-        sym (ap (λ (s : Slot). s.filled) c5.slot_at-slot.ensures) ∙ c5.if-slot.true,
-        c.release_view-after.ensures,
-        c.close_layers-done.ensures.0,
-        c.record-record.ensures,
-        c5.slot_at-slot.ensures,
-      ),
-      c.close_layers-done.ensures.1,
-    )
+returns-then-slot c = (
+  rw (
+    sym (ap (λ (s : Slot). s.filled) c.slot_at-slot.ensures) ∙ c.if-slot.true,
+    c.release_view-after.ensures,
+    c.close_layers-done.ensures.0,
+    c.record-record.ensures,
+    c.slot_at-slot.ensures,
+  ),
+  c.close_layers-done.ensures.1,
+)
 
 pub returns : goal.returns
 returns c = (rw (sym (ap (λ (s : Slot). s.filled) c.slot_at-slot.ensures) ∙ c.if-slot.false), omega arith)

@@ -7,8 +7,7 @@ use Rattle.composition_close.proofs.shutdown.close_window_at.Goals as goal
 pub returns-then-slot : goal.returns-then-slot
 unfolding window_closed
 returns-then-slot c =
-    let c5 = c in
-    rw (sym (ap (λ (s : Slot). s.filled) c5.slot_at-slot.ensures) ∙ c.if-slot.true, c.advance-changed.ensures, c.with_windows.ensures, c.release-release.ensures, c5.slot_at-slot.ensures)
+    rw (sym (ap (λ (s : Slot). s.filled) c.slot_at-slot.ensures) ∙ c.if-slot.true, c.advance-changed.ensures, c.with_windows.ensures, c.release-release.ensures, c.slot_at-slot.ensures)
 
 pub returns : goal.returns
 returns c = rw (sym (ap (λ (s : Slot). s.filled) c.slot_at-slot.ensures) ∙ c.if-slot.false)

@@ -12,10 +12,9 @@ use Rattle.composition_hits.proofs.stack.fill.Goals as goal
 
 pub loop-left-init : goal.loop-left-init
 loop-left-init c =
-    let begun = c in
-    let p = begun.args.panels in
-    let whole = few p begun.well_formed.0 in
-    (omega (arith, c.count-left.ensures), whole, rw (c.count-left.ensures, sym (standing_length p)) (start _ _ _ (rw (standing_length p) whole) begun.requires))
+    let p = c.args.panels in
+    let whole = few p c.well_formed.0 in
+    (omega (arith, c.count-left.ensures), whole, rw (c.count-left.ensures, sym (standing_length p)) (start _ _ _ (rw (standing_length p) whole) c.requires))
 
 pub put_if-at-requires : goal.put_if-at-requires
 put_if-at-requires c = room_for_two _ _ _ _ _ _ c.loop-left.invariant.2 (omega arith)

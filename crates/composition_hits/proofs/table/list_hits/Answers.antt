@@ -12,9 +12,8 @@ use Rattle.composition_hits.proofs.table.list_hits.Goals as goal
 
 pub loop-left-init : goal.loop-left-init
 loop-left-init c =
-    let begun = c in
-    let p = begun.args.panels in
-    let whole = few p begun.well_formed.0 in
+    let p = c.args.panels in
+    let whole = few p c.well_formed.0 in
     (omega (arith, c.count-left.ensures), whole, rw (c.count-left.ensures, sym (standing_length p)) (start _ _ _ (rw (standing_length p) whole) c.new-hits.ensures))
 
 pub push_if-hits-requires : goal.push_if-hits-requires

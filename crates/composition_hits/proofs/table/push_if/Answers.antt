@@ -12,7 +12,7 @@ pub push-requires : goal.push-requires
 push-requires c = omega (arith, ap (λ (x : Hits). x.len) c.requires.hits_value ∙ len_packed state_hits _, c.requires.hits_len_bound)
 
 pub returns-then-is_hit : goal.returns-then-is_hit
-returns-then-is_hit c = let s = c in rw (c.if-is_hit.true, c.push.ensures) (ap (λ (x : Hits). pushed state_hits x s.args.surface) s.requires.hits_value ∙ push_packed state_hits _ _ s.requires.hits_len_bound)
+returns-then-is_hit c = rw (c.if-is_hit.true, c.push.ensures) (ap (λ (x : Hits). pushed state_hits x c.args.surface) c.requires.hits_value ∙ push_packed state_hits _ _ c.requires.hits_len_bound)
 
 pub returns : goal.returns
 returns c = rw (c.if-is_hit.false, append-nil) c.requires.hits_value

@@ -9,10 +9,8 @@ use Rattle.composition_input.proofs.captures.loses_primary.Goals as goal
 
 pub returns-in-None : goal.returns-in-None
 returns-in-None c =
-    let d = c in
-    simp (none_found (found captures capture_key (pointer_key primary) c.args.captures) (sym d.get-holder.ensures ∙ c.in-None.is))
+    simp (none_found (found captures capture_key (pointer_key primary) c.args.captures) (sym c.get-holder.ensures ∙ c.in-None.is))
 
 pub returns-in-Some : goal.returns-in-Some
 returns-in-Some c =
-    let d = c in
-    rw (some_found (found captures capture_key (pointer_key primary) c.args.captures) _ (sym d.get-holder.ensures ∙ c.in-Some.is), c.of_device.ensures, c.pointer_key.ensures)
+    rw (some_found (found captures capture_key (pointer_key primary) c.args.captures) _ (sym c.get-holder.ensures ∙ c.in-Some.is), c.of_device.ensures, c.pointer_key.ensures)

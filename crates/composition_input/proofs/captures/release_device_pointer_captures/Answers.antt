@@ -11,16 +11,17 @@ use Rattle.composition_input.proofs.captures.release_device_pointer_captures.Goa
 pub returns-then-list-eq0 : goal.returns-then-list-eq0
 unfolding release_device_pointer_captures
 returns-then-list-eq0 c =
-    let c5 = c in
-    let d = c5 in
-    c.released_with.ensures (let a = c.args in device_captures a.registry.views a.device a.device_generation) d.device_captures-list.ensures
-    ∙ rw (eq-eqb (length (let a = c.args in device_captures a.registry.views a.device a.device_generation)) 0 (sym (let counted_h : c.device_captures-list.result.len ≡ length (let a = c.args in device_captures a.registry.views a.device a.device_generation) = ap (λ (t : CaptureList). t.len) c.device_captures-list.ensures ∙ len_packed capture_list (let a = c.args in device_captures a.registry.views a.device a.device_generation) in counted_h) ∙ c.if-list-eq0.true), c.then-refusal.ensures, c.damage.ensures, c5.refuse_if-unknown.ensures, c5.is_no_device.ensures)
+    let a = c.args in
+    let captures = device_captures a.registry.views a.device a.device_generation in
+    let counted = ap (λ (t : CaptureList). t.len) c.device_captures-list.ensures ∙ len_packed capture_list captures in
+    c.released_with.ensures captures c.device_captures-list.ensures
+    ∙ rw (eq-eqb (length captures) 0 (sym counted ∙ c.if-list-eq0.true), c.then-refusal.ensures, c.damage.ensures, c.refuse_if-unknown.ensures, c.is_no_device.ensures)
 
 pub returns : goal.returns
 unfolding release_device_pointer_captures
 returns c =
-    let c5 = c in
-    let c10 = c5 in
-    let d = c10 in
-    c.released_with-2.ensures (let a = c.args in device_captures a.registry.views a.device a.device_generation) d.device_captures-list.ensures
-    ∙ rw (ne_eqb (length (let a = c.args in device_captures a.registry.views a.device a.device_generation)) 0 (λ h. c.if-list-eq0.false ((let counted_h : c.device_captures-list.result.len ≡ length (let a = c.args in device_captures a.registry.views a.device a.device_generation) = ap (λ (t : CaptureList). t.len) c.device_captures-list.ensures ∙ len_packed capture_list (let a = c.args in device_captures a.registry.views a.device a.device_generation) in counted_h) ∙ h)), c.settle.ensures, c.with_views.ensures, c.device_cleared-cleared.ensures, c5.then-refusal.ensures, c5.damage.ensures, c5.refuse_if-unknown.ensures, c5.is_no_device.ensures)
+    let a = c.args in
+    let captures = device_captures a.registry.views a.device a.device_generation in
+    let counted = ap (λ (t : CaptureList). t.len) c.device_captures-list.ensures ∙ len_packed capture_list captures in
+    c.released_with-2.ensures captures c.device_captures-list.ensures
+    ∙ rw (ne_eqb (length captures) 0 (λ h. c.if-list-eq0.false (counted ∙ h)), c.settle.ensures, c.with_views.ensures, c.device_cleared-cleared.ensures, c.then-refusal.ensures, c.damage.ensures, c.refuse_if-unknown.ensures, c.is_no_device.ensures)

@@ -5,6 +5,4 @@ use Rattle.composition_input.proofs.captures.release_pointer.Goals as goal
 pub returns : goal.returns
 unfolding release_pointer
 returns c =
-    let c5 = c in
-    let c10 = c5 in
-    rw (c.settle.ensures, c.with_views.ensures, c.with_record.ensures, c.with_captures-released.ensures, c.remove-left.ensures, c5.then-refusal.ensures, c5.owner_refusal.ensures, c5.refuse_if-other.ensures, c5.holds.ensures, c10.record-record.ensures, c10.descriptor-descriptor.ensures)
+    rw (c.settle.ensures, c.with_views.ensures, c.with_record.ensures, c.with_captures-released.ensures, c.remove-left.ensures, c.then-refusal.ensures, c.owner_refusal.ensures, c.refuse_if-other.ensures, c.holds.ensures, c.record-record.ensures, c.descriptor-descriptor.ensures)

@@ -5,5 +5,4 @@ use Rattle.composition_input.proofs.focus.set_focus.Goals as goal
 pub returns : goal.returns
 unfolding set_focus
 returns c =
-    let c5 = c in
-    rw (c.settle.ensures, c.with_views.ensures, c.with_record.ensures, c.with_focus-record.ensures, c.record.ensures, c5.then-refusal.ensures, c5.then.ensures, c5.refusal.ensures, c5.entry_refusal.ensures, c5.focus_target_refusal-target.ensures)
+    rw (c.settle.ensures, c.with_views.ensures, c.with_record.ensures, c.with_focus-record.ensures, c.record.ensures, c.then-refusal.ensures, c.then.ensures, c.refusal.ensures, c.entry_refusal.ensures, c.focus_target_refusal-target.ensures)

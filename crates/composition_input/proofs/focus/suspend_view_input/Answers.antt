@@ -5,5 +5,4 @@ use Rattle.composition_input.proofs.focus.suspend_view_input.Goals as goal
 pub returns : goal.returns
 unfolding suspend_view_input
 returns c =
-    let c5 = c in
-    rw (c.suspended_with.ensures, c.settle.ensures, c.with_views.ensures, c.with_record.ensures, c.suspended_view-next.ensures, c5.input_state-state.ensures, c5.then-refusal.ensures, c5.refusal.ensures, c5.entry_refusal.ensures, c5.record-record.ensures)
+    rw (c.suspended_with.ensures, c.settle.ensures, c.with_views.ensures, c.with_record.ensures, c.suspended_view-next.ensures, c.input_state-state.ensures, c.then-refusal.ensures, c.refusal.ensures, c.entry_refusal.ensures, c.record-record.ensures)

@@ -13,8 +13,7 @@ use Rattle.composition_state.proofs.damage.are_views_sound.Goals as goal
 
 pub loop-i-init : goal.loop-i-init
 loop-i-init c =
-    let start = c in
-    (omega arith, start.requires, long start.args.views start.well_formed.1.1.1.0, sym (all_none _))
+    (omega arith, c.requires, long c.args.views c.well_formed.1.1.1.0, sym (all_none _))
 
 pub loop-i-preserved : goal.loop-i-preserved
 loop-i-preserved c =

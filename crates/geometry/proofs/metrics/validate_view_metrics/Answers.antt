@@ -16,27 +16,22 @@ returns-then-is_over c =
 pub returns-then-is_over-2 : goal.returns-then-is_over-2
 unfolding is_valid_metrics
 returns-then-is_over-2 c =
-    let width = c in
-    let scale = ne_eqb _ _ width.if-update-eq0.false in
-    let across = sym width.is_over.ensures ∙ width.if-is_over.false in
+    let scale = ne_eqb _ _ c.if-update-eq0.false in
+    let across = sym c.is_over.ensures ∙ c.if-is_over.false in
     simp (scale, across, sym c.is_over-2.ensures ∙ c.if-is_over-2.true)
 
 pub returns-then-framebuffer_disagrees : goal.returns-then-framebuffer_disagrees
 unfolding is_valid_metrics
 returns-then-framebuffer_disagrees c =
-    let height = c in
-    let width = height in
-    let scale = ne_eqb _ _ width.if-update-eq0.false in
-    let across = sym width.is_over.ensures ∙ width.if-is_over.false in
-    let down = sym height.is_over-2.ensures ∙ height.if-is_over-2.false in
+    let scale = ne_eqb _ _ c.if-update-eq0.false in
+    let across = sym c.is_over.ensures ∙ c.if-is_over.false in
+    let down = sym c.is_over-2.ensures ∙ c.if-is_over-2.false in
     simp (scale, across, down, sym c.framebuffer_disagrees.ensures ∙ c.if-framebuffer_disagrees.true)
 
 pub returns : goal.returns
 unfolding is_valid_metrics
 returns c =
-    let height = c in
-    let width = height in
-    let scale = ne_eqb _ _ width.if-update-eq0.false in
-    let across = sym width.is_over.ensures ∙ width.if-is_over.false in
-    let down = sym height.is_over-2.ensures ∙ height.if-is_over-2.false in
+    let scale = ne_eqb _ _ c.if-update-eq0.false in
+    let across = sym c.is_over.ensures ∙ c.if-is_over.false in
+    let down = sym c.is_over-2.ensures ∙ c.if-is_over-2.false in
     simp (scale, across, down, sym c.framebuffer_disagrees.ensures ∙ c.if-framebuffer_disagrees.false)

@@ -11,7 +11,6 @@ returns-then-is_under_epsilon c = sym (cond_true _ _ _ (sym c.is_under_epsilon.e
 pub returns : goal.returns
 unfolding solved
 returns c =
-    let at = c in
     c.join.ensures
     ∙ ap₂ joined c.round_i32-local_x.ensures c.round_i32-local_y.ensures
-    ∙ sym (cond_false _ _ _ (sym at.is_under_epsilon.ensures ∙ c.if-is_under_epsilon.false))
+    ∙ sym (cond_false _ _ _ (sym c.is_under_epsilon.ensures ∙ c.if-is_under_epsilon.false))

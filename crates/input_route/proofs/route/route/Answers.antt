@@ -5,25 +5,22 @@ use Rattle.input_route.proofs.route.route.Goals as goal
 
 pub returns-in-Refused : goal.returns-in-Refused
 returns-in-Refused c =
-    let checks = c in
-    let a = checks.args in
-    let is : checks.route_refusal.result ≡ checked a.registry a.router a.event = checks.route_refusal.ensures ∙ rw checks.is_sound-sound.ensures in
+    let a = c.args in
+    let is : c.route_refusal.result ≡ checked a.registry a.router a.event = c.route_refusal.ensures ∙ rw c.is_sound-sound.ensures in
     c.refused.ensures ∙ sym (refused a.registry a.router a.event _ (sym is ∙ c.in-Refused.is))
 
 pub returns-then-is_disconnect : goal.returns-then-is_disconnect
 returns-then-is_disconnect c =
-    let checks = c in
-    let a = checks.args in
-    let is : checks.route_refusal.result ≡ checked a.registry a.router a.event = checks.route_refusal.ensures ∙ rw checks.is_sound-sound.ensures in
+    let a = c.args in
+    let is : c.route_refusal.result ≡ checked a.registry a.router a.event = c.route_refusal.ensures ∙ rw c.is_sound-sound.ensures in
     let passed = sym is ∙ c.in_default.is in
     let gone = sym c.is_disconnect.ensures ∙ c.if-is_disconnect.true in
     c.route_disconnect.ensures ∙ rw c.record_event-recorded.ensures (sym (disconnected a.registry a.router a.event passed gone))
 
 pub returns-then-is_loss : goal.returns-then-is_loss
 returns-then-is_loss c =
-    let checks = c in
-    let a = checks.args in
-    let is : checks.route_refusal.result ≡ checked a.registry a.router a.event = checks.route_refusal.ensures ∙ rw checks.is_sound-sound.ensures in
+    let a = c.args in
+    let is : c.route_refusal.result ≡ checked a.registry a.router a.event = c.route_refusal.ensures ∙ rw c.is_sound-sound.ensures in
     let passed = sym is ∙ c.in_default.is in
     let kept = sym c.is_disconnect.ensures ∙ c.if-is_disconnect.false in
     let loses = sym c.is_loss.ensures ∙ c.if-is_loss.true in
@@ -31,16 +28,14 @@ returns-then-is_loss c =
 
 pub route_arbitrated-requires : goal.route_arbitrated-requires
 route_arbitrated-requires c =
-    let checks = c in
-    let a = checks.args in
-    let is : checks.route_refusal.result ≡ checked a.registry a.router a.event = checks.route_refusal.ensures ∙ rw checks.is_sound-sound.ensures in
+    let a = c.args in
+    let is : c.route_refusal.result ≡ checked a.registry a.router a.event = c.route_refusal.ensures ∙ rw c.is_sound-sound.ensures in
     sound a.registry a.router a.event (sym is ∙ c.in_default.is)
 
 pub returns : goal.returns
 returns c =
-    let checks = c in
-    let a = checks.args in
-    let is : checks.route_refusal.result ≡ checked a.registry a.router a.event = checks.route_refusal.ensures ∙ rw checks.is_sound-sound.ensures in
+    let a = c.args in
+    let is : c.route_refusal.result ≡ checked a.registry a.router a.event = c.route_refusal.ensures ∙ rw c.is_sound-sound.ensures in
     let passed = sym is ∙ c.in_default.is in
     let kept = sym c.is_disconnect.ensures ∙ c.if-is_disconnect.false in
     let stays = sym c.is_loss.ensures ∙ c.if-is_loss.false in

@@ -13,13 +13,12 @@ use native.Mathlib.Omega.{arith}
 use Rattle.release_lists.proofs.releases.add_view_captures.Goals as goal
 
 pub loop-i-init : goal.loop-i-init
-loop-i-init c =
-    let a = c in (
-      omega arith,
-      omega (arith, capture.few a.args.held a.well_formed.1.0),
-      packed_self releases _ _ c.of_presses-next.ensures ∙ ap (packed releases) (sym (add_none _)),
-      omega (arith, ap length (entries_are releases _ _ c.of_presses-next.ensures), few a.args.presses a.well_formed.0),
-    )
+loop-i-init c = (
+  omega arith,
+  omega (arith, capture.few c.args.held c.well_formed.1.0),
+  packed_self releases _ _ c.of_presses-next.ensures ∙ ap (packed releases) (sym (add_none _)),
+  omega (arith, ap length (entries_are releases _ _ c.of_presses-next.ensures), few c.args.presses c.well_formed.0),
+)
 
 pub add-next-requires : goal.add-next-requires
 add-next-requires c =

@@ -36,22 +36,17 @@ slice_bounds-verb_named-end c = sym (length-take-le _ _ (verb_within c.args.line
 pub returns-then-is_unknown : goal.returns-then-is_unknown
 unfolding fault_of
 returns-then-is_unknown c =
-    let f = c in
-    let l = f.args.line.now in
-    rw (le-ltb 4096 _ f.if-line-gt4096.false, asked l _ f.find-end.ensures _ c.verb_named.ensures _ _ c.is_unknown.ensures c.if-is_unknown.true)
+    let l = c.args.line.now in
+    rw (le-ltb 4096 _ c.if-line-gt4096.false, asked l _ c.find-end.ensures _ c.verb_named.ensures _ _ c.is_unknown.ensures c.if-is_unknown.true)
 
 pub returns-then-is_unknown-2 : goal.returns-then-is_unknown-2
 unfolding fault_of
 returns-then-is_unknown-2 c =
-    let u = c in
-    let f = u in
-    let l = f.args.line.now in
-    rw (le-ltb 4096 _ f.if-line-gt4096.false, asked l _ f.find-end.ensures _ u.verb_named.ensures _ _ u.is_unknown.ensures u.if-is_unknown.false, read l _ c.parse-parsed.ensures _ _ c.is_unknown-2.ensures c.if-is_unknown-2.true)
+    let l = c.args.line.now in
+    rw (le-ltb 4096 _ c.if-line-gt4096.false, asked l _ c.find-end.ensures _ c.verb_named.ensures _ _ c.is_unknown.ensures c.if-is_unknown.false, read l _ c.parse-parsed.ensures _ _ c.is_unknown-2.ensures c.if-is_unknown-2.true)
 
 pub returns : goal.returns
 unfolding fault_of
 returns c =
-    let u = c in
-    let f = u in
-    let l = f.args.line.now in
-    rw (le-ltb 4096 _ f.if-line-gt4096.false, asked l _ f.find-end.ensures _ u.verb_named.ensures _ _ u.is_unknown.ensures u.if-is_unknown.false, read l _ c.parse-parsed.ensures _ _ c.is_unknown-2.ensures c.if-is_unknown-2.false)
+    let l = c.args.line.now in
+    rw (le-ltb 4096 _ c.if-line-gt4096.false, asked l _ c.find-end.ensures _ c.verb_named.ensures _ _ c.is_unknown.ensures c.if-is_unknown.false, read l _ c.parse-parsed.ensures _ _ c.is_unknown-2.ensures c.if-is_unknown-2.false)

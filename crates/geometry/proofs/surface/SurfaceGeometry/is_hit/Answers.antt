@@ -8,10 +8,9 @@ use Rattle.geometry.proofs.surface.SurfaceGeometry.is_hit.Goals as goal
 pub returns-then-self : goal.returns-then-self
 unfolding is_hit
 returns-then-self c =
-    let start = c in
-    let g = start.args.self in
-    let at : c.inverse_point-local.result ≡ inverse_point g.transform start.args.x_milli start.args.y_milli =
-    cc (to_z-of_z start.ranges.x_milli, to_z-of_z start.ranges.y_milli) in
+    let g = c.args.self in
+    let at : c.inverse_point-local.result ≡ inverse_point g.transform c.args.x_milli c.args.y_milli =
+    cc (to_z-of_z c.ranges.x_milli, to_z-of_z c.ranges.y_milli) in
     simp c.if-self.true (c.is_inside.ensures ∙ ap (λ (p : LocalPoint). lies_inside g.bounds g.clip p) at)
 
 pub returns-else-self : goal.returns-else-self

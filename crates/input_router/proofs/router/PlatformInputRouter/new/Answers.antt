@@ -5,12 +5,10 @@ use Rattle.input_router.proofs.router.PlatformInputRouter.new.Goals as goal
 
 pub returns-then-is_accepted : goal.returns-then-is_accepted
 returns-then-is_accepted c =
-    let d = c in
-    let is = sym (c.is_accepted.ensures ∙ ap is_started d.start_outcome-outcome.ensures) ∙ c.if-is_accepted.true in
-    rw (c.empty-router.ensures, d.start_outcome-outcome.ensures, is)
+    let is = sym (c.is_accepted.ensures ∙ ap is_started c.start_outcome-outcome.ensures) ∙ c.if-is_accepted.true in
+    rw (c.empty-router.ensures, c.start_outcome-outcome.ensures, is)
 
 pub returns : goal.returns
 returns c =
-    let d = c in
-    let is = sym (c.is_accepted.ensures ∙ ap is_started d.start_outcome-outcome.ensures) ∙ c.if-is_accepted.false in
-    rw (c.empty-router-2.ensures, d.start_outcome-outcome.ensures, is)
+    let is = sym (c.is_accepted.ensures ∙ ap is_started c.start_outcome-outcome.ensures) ∙ c.if-is_accepted.false in
+    rw (c.empty-router-2.ensures, c.start_outcome-outcome.ensures, is)

@@ -6,10 +6,9 @@ use Rattle.input_router.proofs.router.PlatformInputRouter.recorded.Goals as goal
 
 pub returns-then-insertion : goal.returns-then-insertion
 returns-then-insertion c =
-    let d = c in
-    let a = d.args in
-    let taken = sym (flag_is (sequence_entry a.device a.sequence) a.self.device_sequences d.insert-insertion.result d.insert-insertion.ensures) ∙ c.if-insertion.true in
-    rw (c.with_timestamp.ensures, c.with_sequences.ensures, map_is (sequence_entry a.device a.sequence) a.self.device_sequences d.insert-insertion.result d.insert-insertion.ensures taken, taken)
+    let a = c.args in
+    let taken = sym (flag_is (sequence_entry a.device a.sequence) a.self.device_sequences c.insert-insertion.result c.insert-insertion.ensures) ∙ c.if-insertion.true in
+    rw (c.with_timestamp.ensures, c.with_sequences.ensures, map_is (sequence_entry a.device a.sequence) a.self.device_sequences c.insert-insertion.result c.insert-insertion.ensures taken, taken)
 
 pub returns : goal.returns
 returns c =

@@ -14,8 +14,7 @@ use Rattle.records.proofs.layers.Layers.are_of.Goals as goal
 
 pub loop-i-init : goal.loop-i-init
 loop-i-init c =
-    let start = c in
-    (omega arith, omega (arith, few start.args.self start.well_formed.0, c.count-n.ensures), λ records e. refl)
+    (omega arith, omega (arith, few c.args.self c.well_formed.0, c.count-n.ensures), λ records e. refl)
 
 pub loop-i-preserved : goal.loop-i-preserved
 loop-i-preserved c =

@@ -15,7 +15,6 @@ push-requires c = omega (arith, ap (λ (t : Releases). t.len) c.requires.self_va
 
 pub returns : goal.returns
 returns c =
-    let s = c in
-    let e = capture_release s.args.capture in
+    let e = capture_release c.args.capture in
     rw (sym c.has_pair.ensures ∙ c.if-has_pair.false)
-    (c.push.ensures ∙ ap (λ (t : Releases). pushed releases t e) s.requires.self_value ∙ push_packed releases (entries_of releases s.args.self) e s.requires.self_len_bound)
+    (c.push.ensures ∙ ap (λ (t : Releases). pushed releases t e) c.requires.self_value ∙ push_packed releases (entries_of releases c.args.self) e c.requires.self_len_bound)

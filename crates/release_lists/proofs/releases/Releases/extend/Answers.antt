@@ -16,9 +16,8 @@ use Rattle.release_lists.proofs.releases.Releases.extend.Goals as goal
 
 pub loop-i-init : goal.loop-i-init
 loop-i-init c =
-    let begun = c in
-    let own = ap (λ (t : Releases). t.len) begun.requires.self_value ∙ len_packed releases _ in
-    (omega arith, omega (arith, few begun.args.from begun.well_formed.1.0), begun.requires.self_value ∙ ap (packed releases) (sym (append-nil _)), omega (arith, own, begun.requires.from_len_bound, c.count-n.ensures))
+    let own = ap (λ (t : Releases). t.len) c.requires.self_value ∙ len_packed releases _ in
+    (omega arith, omega (arith, few c.args.from c.well_formed.1.0), c.requires.self_value ∙ ap (packed releases) (sym (append-nil _)), omega (arith, own, c.requires.from_len_bound, c.count-n.ensures))
 
 pub loop-i-preserved : goal.loop-i-preserved
 unfolding pushed
