@@ -109,30 +109,31 @@ fn answer_chunk(
     Reading { session, len, told }
 }
 
-// Reads once and answers the lines that are complete, so that each is answered before more is read.
+// Reads once and answers the lines that are complete, so that each is answered before more is read. What cannot be read
+// is taken for the input's end.
 fn serve_some<R: Read>(
     rt: &(impl Print + Eprint),
     input: &mut R,
     reading: Reading,
     line: &mut [u8],
     out: &mut [u8],
-) -> io::Result<Served>
+) -> Served
     requires { 524288 ≤ length out.old }
 {
     let mut chunk = [0u8; 65536];
-    let n = input.read(&mut chunk)?;
+    let n = input.read(&mut chunk).unwrap_or(0);
     if n == 0 {
-        return Ok(Served {
+        return Served {
             reading,
             is_open: false,
-        });
+        };
     }
     let next = answer_chunk(rt, reading, &chunk[..n], line, out);
     let told = next.told;
-    Ok(Served {
+    Served {
         reading: next,
         is_open: told.is_written,
-    })
+    }
 }
 
 // Nothing is read yet.
@@ -151,7 +152,7 @@ fn first_reading() -> Reading {
 
 // Serves the input to its end. A proved loop has to end, so this one counts its turns down from a number that no run
 // uses up. A last line that no line feed ends is a line too.
-fn serve(rt: &(impl Input + Print + Eprint), line: &mut [u8], out: &mut [u8]) -> io::Result<()>
+fn serve(rt: &(impl Input + Print + Eprint), line: &mut [u8], out: &mut [u8])
     requires { 524288 ≤ length out.old }
 {
     let mut input = rt.reader();
@@ -159,17 +160,16 @@ fn serve(rt: &(impl Input + Print + Eprint), line: &mut [u8], out: &mut [u8]) ->
     let mut is_open = true;
     let mut turns = u64::MAX;
     while turns > 0 && is_open {
-        let served = serve_some(rt, &mut input, reading, line, out)?;
+        let served = serve_some(rt, &mut input, reading, line, out);
         reading = served.reading;
         is_open = served.is_open;
         turns -= 1;
     }
     let last = answer_bytes(reading.session, line, reading.len, out);
     let told = write_answer(rt, reading.told, true, out, last.at, line, reading.len);
-    if told.is_written {
-        return Ok(());
+    if told.is_written {} else {
+        messages::tell_unwritten(rt);
     }
-    messages::tell_unwritten(rt)
 }
 
 // A buffer that a whole answer line fits.
@@ -188,5 +188,6 @@ fn main(rt: HostRuntime) -> io::Result<()> {
     }
     let mut line = [0u8; 4097];
     let mut out = answer_buffer();
-    serve(&rt, &mut line, &mut out)
+    serve(&rt, &mut line, &mut out);
+    Ok(())
 }

@@ -48,8 +48,8 @@ pub fn tell_fault(rt: &impl Eprint, number: u64, line: &[u8], len: usize) {
     let _is_told = eprintln!(rt; "replay: line {number}: {reason}").is_ok();
 }
 
-pub fn tell_unwritten(rt: &impl Eprint) -> io::Result<()> {
-    eprintln!(rt; "replay: the answers could not be written")
+pub fn tell_unwritten(rt: &impl Eprint) {
+    let _is_told = eprintln!(rt; "replay: the answers could not be written").is_ok();
 }
 
 // One line on how the program is used: on standard output where it is asked for, and else on standard error.
