@@ -1,6 +1,5 @@
-pub mod WordLaws
+pub mod FaultLaws
 pub mod NumberLaws
 pub mod VerbLaws
+pub mod WordLaws
 pub mod LineLaws
-pub mod FaultLaws
-pub mod RangeLaws

@@ -1,50 +1,17 @@
--- Laws of reading a number: the digits of a word are taken one by one, and each fault gives no number.
-use Prim.Native.Nat.{ℕ, suc, ◌+◌, ◌*◌, ◌-◌, ◌^◌, ◌≤◌, ◌<◌}
-use mathlib.Core.Bool.{true, false}
-use mathlib.Core.List.{List, [], ◌∷◌, foldl, foldl-append}
-use mathlib.Core.Path.{◌≡◌, refl}
-use native.Mathlib.Numerals.{add-one}
-use native.Mathlib.Omega.{arith}
-use lib.Dec.{leb}
-use lib.ListN.{length, take, get_or}
-use lib.Seq.{take-suc}
-use borrow.Author.Tests.{lt-ltb, le-ltb, le-leb, lt-leb}
-use Rattle.lists.proofs.ListLaws.{by_test}
-use Rattle.script.specs.declared.number.Magnitude.{Magnitude}
-use Rattle.script.specs.Numbers.{no_magnitude, is_digit, push_digit, magnitude_of, plain_of, number_of}
+-- Laws of reading a number: a row of digits is read one by one, and one fault makes it no number.
+use Rattle.std.proofs.Common.{◌≡◌, ℕ, ◌+◌, ◌<◌, List, [], ◌∷◌, length, drop, refl, ◌∙◌, get_or, add-one, drop-cons}
+use mathlib.Core.List.{foldl}
+use Rattle.std.specs.Prelude.{None, Some}
+use Rattle.script.specs.Numbers.{push_digit, push_behind}
 
-module _ {S : Type 0} (step : S → ℕ → S) (start : S) where
-  -- one byte more
-  pub fold_next : (l : List ℕ) (i : ℕ) → i < length l → foldl step start (take (i + 1) l) ≡ step (foldl step start (take i l)) (get_or l i 0)
-  fold_next l i h = rw (add-one, take-suc l i 0 h, foldl-append)
+-- behind no number stands none
+none_stays : (w : List ℕ) → foldl push_behind None w ≡ None
+none_stays [] = refl
+none_stays (b ∷ w) = none_stays w
 
--- ---- one digit more
-module _ (m : Magnitude) (b : ℕ) where
-  pub push_stopped : m.fits ≡ false → no_magnitude ≡ push_digit m b
-  unfolding push_digit
-  push_stopped e = rw e
+-- one digit more
+pub digit_next : (s : List ℕ) (i n : ℕ) → i < length s → foldl push_behind (Some n) (drop i s) ≡ foldl push_behind (push_digit n (get_or s i 0)) (drop (i + 1) s)
+digit_next s i n h = rw (drop-cons s i 0 h, add-one)
 
-  pub push_below : b < 48 → no_magnitude ≡ push_digit m b
-  unfolding push_digit
-  push_below h = rw (lt-leb 48 b h) (by_test m.fits (λ t. rw t) (λ t. rw t))
-
-  pub push_above : 57 < b → no_magnitude ≡ push_digit m b
-  unfolding push_digit
-  push_above h = rw (lt-leb b 57 h) (by_test m.fits (λ t. by_test (leb 48 b) (λ u. rw (t, u)) (λ u. rw (t, u))) (λ t. rw t))
-
-  pub push_large : 2 ^ 64 ≤ m.value * 10 + (b - 48) → no_magnitude ≡ push_digit m b
-  unfolding push_digit
-  push_large h = rw (le-ltb _ _ h) (by_test m.fits (λ t. by_test (is_digit b) (λ u. rw (t, u)) (λ u. rw (t, u))) (λ t. rw t))
-
-  pub push_more : m.fits ≡ true → 48 ≤ b → b ≤ 57 → m.value * 10 + (b - 48) < 2 ^ 64 → push_digit m b ≡ record { value = m.value * 10 + (b - 48); fits = true }
-  unfolding push_digit
-  push_more e l u h = rw (e, le-leb 48 b l, le-leb b 57 u, lt-ltb _ _ h)
-
--- ---- a word with nothing in it
-pub number_empty : (w : List ℕ) → length w ≡ 0 → plain_of no_magnitude ≡ number_of w
-unfolding number_of magnitude_of
-number_empty [] e = refl
-number_empty (x ∷ w) e = absurd (none (length w) e)
-  where
-    none : (n : ℕ) → suc n ≡ 0 → ⊥
-    none n e = omega arith
+pub digit_stops : (s : List ℕ) (i n : ℕ) → i < length s → push_digit n (get_or s i 0) ≡ None → foldl push_behind (Some n) (drop i s) ≡ None
+digit_stops s i n h e = digit_next s i n h ∙ rw e (none_stays (drop (i + 1) s))

@@ -1,121 +1,107 @@
 -- Laws of the words of a line and of a search for a byte, by induction on the line.
-use Prim.Native.Nat.{ℕ, suc, ◌+◌, ◌-◌, ◌≤◌, ◌<◌}
-use mathlib.Core.Bool.{true, false}
-use mathlib.Core.List.{List, [], ◌∷◌}
-use mathlib.Core.Logic.{⊎_elim}
-use mathlib.Core.Path.{◌≡◌, refl, sym, ap, ◌∙◌}
-use native.Mathlib.Nat.{add-zero, eq-or-lt_of_le}
-use native.Mathlib.Numerals.{add-one}
-use native.Mathlib.Omega.{arith}
-use lib.Dec.{eqb}
-use lib.ListN.{length, take, drop, get_or, length-drop, drop_of_length-le}
-use lib.Seq.{drop-cons, drop-drop, get_or-drop, take_all}
-use borrow.Author.Tests.{eq-eqb, ne_eqb, eqb-true, le-leb, lt-leb}
-use Rattle.lists.proofs.ListLaws.{by_test}
-use Rattle.script.specs.Words.{up_to, later_words, same, index_in, words_from}
+use Rattle.std.proofs.Common.{◌≡◌, ℕ, suc, ◌+◌, ◌-◌, ◌≤◌, List, [], ◌∷◌, length, take, drop, refl, sym, ap, ◌∙◌, nat_eq, nat_le, cond, Bool, true, false, arith, min, length-drop, ◌++◌, get_or, subst, Bor}
+use Rattle.std.proofs.lemmas.Bool.Decides.{nat_tests}
+use Rattle.std.proofs.lemmas.Fn.{always_returns_same}
+use Rattle.std.proofs.lemmas.Grind.{common_steps}
+use Rattle.std.proofs.lemmas.List.Splits.{slice_split_none, slice_split_at}
+use Rattle.std.specs.Bool.{MatchBool}
+use Rattle.std.specs.Fn.{CalledAt, ComputesKey}
+use Rattle.std.specs.List.{position_or_len, position, slice_split, onto_first, All, IsFirstMatchOrLen}
+use Rattle.std.specs.Slice.Iter.{split_rest, split_done, split_callee, split_steps}
+use Rattle.std.specs.declared.slice.Split.{Split}
+use denote.Param.Members.{Mut}
+use Rattle.std.specs.Option.{unwrap_or}
+use Rattle.std.specs.Prelude.{Option, None, Some, nat_lt}
+use Rattle.std.proofs.lemmas.List.Recursion.{is_position_or_len}
+use borrow.Author.Tests.{leb-true, leb-false}
+use lib.ListN.{drop_of_length-le}
+use lib.Seq.{take_all}
+use Rattle.script.specs.Words.{up_to, first_word, later_words, words_of}
+
+-- the first b stands behind what stands before it
+pub up_to_place : (b : ℕ) (l : List ℕ) → length (up_to b l) ≡ position_or_len (λ x. nat_eq x b) l
+up_to_place b l = is_position_or_len (λ l. length (up_to b l)) (λ x. nat_eq x b) refl (λ x xs. step (nat_eq x b) x (up_to b xs)) l
+  where
+    step : (t : Bool) (x : ℕ) (r : List ℕ) → length (cond t [] (x ∷ r)) ≡ cond t 0 (1 + length r)
+    step true x r = refl
+    step false x r = omega arith
+
+pub up_to_within : (b : ℕ) (l : List ℕ) → length (up_to b l) ≤ length l
+up_to_within b [] = omega arith
+up_to_within b (x ∷ l) = step (nat_eq x b) (up_to b l) (up_to_within b l)
+  where
+    step : (t : Bool) (r : List ℕ) → length r ≤ length l → length (cond t [] (x ∷ r)) ≤ suc (length l)
+    step true r h = omega arith
+    step false r h = omega arith
+
+pub place_or_end : (b : ℕ) (l : List ℕ) → unwrap_or (position (λ x. nat_eq x b) l) (length l) ≡ length (up_to b l)
+place_or_end b l = step (length (up_to b l)) (length l) (position_or_len (λ x. nat_eq x b) l) (up_to_place b l) (up_to_within b l)
+  where
+    step : (k n p : ℕ) → k ≡ p → k ≤ n → unwrap_or (cond (nat_lt p n) (Some p) None) n ≡ k
+    step k n p e h = grind (arith, nat_tests)
+
+-- the words of a line are the parts that it is cut into at its spaces
+pub words_split : (l : List ℕ) → slice_split (λ b. nat_eq b 32) l ≡ words_of l
+words_split [] = refl
+words_split (b ∷ l) = step (nat_eq b 32) _ (words_split l)
+  where
+    step : (t : Bool) (ps : List (List ℕ)) → ps ≡ words_of l → cond t ([] ∷ ps) (onto_first b ps) ≡ cond t [] (b ∷ up_to 32 l) ∷ cond t (first_word l ∷ later_words l) (later_words l)
+    step true ps e = rw e
+    step false ps e = rw e
 
 -- a part that goes to the end
 pub take_rest : (l : List ℕ) (i : ℕ) → take (length l - i) (drop i l) ≡ drop i l
 take_rest l i = take_all (length l - i) (drop i l) (omega (arith, length-drop i l))
 
--- ---- a search from an index on
-module _ (s : List ℕ) (i b : ℕ) where
-  pub find_here : i < length s → get_or s i 0 ≡ b → i + length (up_to b (drop i s)) ≡ i
-  find_here h e = rw (drop-cons s i 0 h, eq-eqb _ _ e) (add-zero i)
-
-  pub find_next : i < length s → (get_or s i 0 ≡ b → ⊥) → i + length (up_to b (drop i s)) ≡ i + 1 + length (up_to b (drop (i + 1) s))
-  find_next h n = rw (drop-cons s i 0 h, ne_eqb _ _ n, add-one i) (omega arith)
-
-  pub find_end : length s ≤ i → i + length (up_to b (drop i s)) ≡ i
-  find_end h = rw (drop_of_length-le s h) (add-zero i)
-
--- ---- what stands before the first b
-pub up_to_within_lem : (b : ℕ) (l : List ℕ) → length (up_to b l) ≤ length l
-up_to_within_lem b [] = omega arith
-up_to_within_lem b (x ∷ l) = by_test (eqb x b) (λ t. simp t (omega arith)) (λ t. simp t (omega (arith, up_to_within_lem b l)))
-
-pub up_to_take_lem : (b : ℕ) (l : List ℕ) → take (length (up_to b l)) l ≡ up_to b l
-up_to_take_lem b [] = refl
-up_to_take_lem b (x ∷ l) = by_test (eqb x b) (λ t. simp t) (λ t. simp (t, up_to_take_lem b l))
-
-pub up_to_stop_lem : (b : ℕ) (l : List ℕ) → length (up_to b l) < length l → get_or l (length (up_to b l)) 0 ≡ b
-up_to_stop_lem b [] h = absurd (none h)
+-- what is left of a text from a place on, cut at its end
+pub rest_is : (l : List ℕ) (from k : ℕ) → k ≡ min from (length l) → take (length l - k) (drop k l) ≡ drop from l
+rest_is l from k e = take_rest l k ∙ step (nat_le from (length l)) refl
   where
-    none : 0 < 0 → ⊥
-    none h = omega arith
-up_to_stop_lem b (x ∷ l) h =
-    by_test (eqb x b)
-    (λ t. simp t (eqb-true x b t))
-    (λ t. simp t (up_to_stop_lem b l (less (length (up_to b l)) (length l) (simp t at h))))
-  where
-    less : (m n : ℕ) → suc m < suc n → m < n
-    less m n h = omega arith
+    step : (t : Bool) → nat_le from (length l) ≡ t → drop k l ≡ drop from l
+    step true t = let n : k ≡ from = omega (arith, leb-true from (length l) t) in rw n
+    step false t =
+        let past : length l ≤ k = omega (arith, leb-false from (length l) t) in
+        let past' : length l ≤ from = omega (arith, leb-false from (length l) t) in
+        rw (drop_of_length-le l past, drop_of_length-le l past')
 
--- the part that ends before the first b from an index on
-module _ (b : ℕ) (l : List ℕ) (i e : ℕ) (end : e ≡ i + length (up_to b (drop i l))) where
-  pub end_within : i ≤ length l → e ≤ length l
-  end_within h = omega (arith, up_to_within_lem b (drop i l), length-drop i l)
+-- ---- a turn over the parts that a slice is cut into
+slice_split_part : {A : Type 0} (p : A → Bool) (xs x rest : List A) (done : Bool)
+    → MatchBool done (xs ≡ x) ((y : A) × (xs ≡ x ++ (y ∷ rest))) → IsFirstMatchOrLen p xs (length x)
+    → slice_split p xs ≡ x ∷ cond done [] (slice_split p rest)
+slice_split_part p xs x rest true e h =
+    ap (slice_split p) e ∙ slice_split_none p x (λ k d l. subst (λ ys. p (get_or ys k d) ≡ false) e (h.0 k d (omega arith) l))
+slice_split_part p xs x rest false e h =
+    let front : All (λ z. p z ≡ false) x = λ k d l. let a = h.0 k d (omega arith) l in let b = e.1 in grind (arith, common_steps) in
+    let hit : p e.0 ≡ true = let b = e.1 in let a = h.1 (grind (arith, common_steps)) e.0 in grind (arith, common_steps) in
+    ap (slice_split p) e.1 ∙ slice_split_at p x e.0 rest front hit
 
-  pub part_is : take (e - i) (drop i l) ≡ up_to b (drop i l)
-  part_is = let n : e - i ≡ length (up_to b (drop i l)) = omega arith in rw n (up_to_take_lem b (drop i l))
+-- the words that a cut at spaces still gives
+abbrev pub words_left : {F : Type 0} → Split ℕ F → List (List ℕ)
+words_left s = cond (split_done s) [] (slice_split (λ b. nat_eq b 32) (split_rest s))
 
--- the later words of a line are those after its first word
-pub later_first : (l : List ℕ) → later_words (drop (length (up_to 32 l)) l) ≡ later_words l
-later_first [] = refl
-later_first (x ∷ l) = by_test (eqb x 32) (λ t. simp t) (λ t. simp (t, later_first l))
+module _ {F : Type 0} (g : Mut F (Bor ℕ × Unit {0}) Bool) (s t : Split ℕ F)
+    (tests : (x : ℕ) (b : Bool) (q : F) → CalledAt g (split_callee s) x b q → (q ≡ split_callee s) × (b ≡ nat_eq x 32)) where
+  pub word_next : (x : Bor (List ℕ)) → split_steps g s (Some x) t → words_left s ≡ x.now ∷ words_left t
+  word_next x k =
+      let p : ℕ → Bool = λ b. nat_eq b 32 in
+      let h : ComputesKey g p (split_callee s) = always_returns_same g (λ a r. r ≡ p a.0.now) (split_callee s) (λ a r q k. let m = tests a.0.now r q (record { shown = a.0; shows = refl; called = k }) in (m.1, m.0)) in
+      ap (λ b. cond b [] (slice_split p (split_rest s))) k.0 ∙ slice_split_part p (split_rest s) x.now (split_rest t) (split_done t) k.1 (k.2 p h).1
 
--- a word from an index on, and the words after it
-module _ (l : List ℕ) (i e : ℕ) (within : i ≤ length l) (end : e ≡ i + length (up_to 32 (drop i l))) where
-  pub word_within : e ≤ length l
-  word_within = end_within 32 l i e end within
+  -- the first word, where there is no other text for one that is missing
+  pub word_first : (o : Option (Bor (List ℕ))) (d : Bor (List ℕ)) → split_done s ≡ false → split_steps g s o t → words_left s ≡ (unwrap_or o d).now ∷ words_left t
+  word_first None d e k = absurd (clash (sym k.0 ∙ e))
+    where
+      clash : true ≡ false → ⊥
+      clash e = cc
+  word_first (Some x) d e k = word_next x k
 
-  pub word_part : take (e - i) (drop i l) ≡ up_to 32 (drop i l)
-  word_part = part_is 32 l i e end
+  -- what a line's first word is, and what its later ones are
+  pub first_is : (l : List ℕ) (o : Option (Bor (List ℕ))) (d r : Bor (List ℕ)) → split_rest s ≡ l → split_done s ≡ false → split_steps g s o t → r ≡ unwrap_or o d
+      → (first_word l ≡ r.now) × (later_words l ≡ words_left t)
+  first_is l o d r rest begun k e =
+      let whole : words_left s ≡ words_of l = (λ i. cond (begun i) [] (slice_split (λ b. nat_eq b 32) (rest i))) ∙ words_split l in
+      let cut : words_of l ≡ r.now ∷ words_left t = sym whole ∙ word_first o d begun k ∙ ap (λ (x : Bor (List ℕ)). x.now ∷ words_left t) (sym e) in
+      (cc, cc)
 
-  rest_same : later_words (drop e l) ≡ later_words (drop i l)
-  rest_same = rw (end, sym (drop-drop (length (up_to 32 (drop i l))) i l)) (later_first (drop i l))
-
-  rest_here : e < length l → later_words (drop e l) ≡ words_from l (e + 1)
-  unfolding words_from
-  rest_here h =
-      let stop : get_or l e 0 ≡ 32 = rw end (sym (get_or-drop i l _ 0) ∙ up_to_stop_lem 32 (drop i l) (omega (arith, length-drop i l))) in
-      rw (drop-cons l e 0 h, eq-eqb _ _ stop, add-one e, le-leb _ _ h)
-
-  rest_none : length l ≤ e → later_words (drop e l) ≡ words_from l (e + 1)
-  unfolding words_from
-  rest_none h = rw (drop_of_length-le l h, lt-leb (e + 1) (length l) (omega arith))
-
-  pub rest_words : later_words (drop i l) ≡ words_from l (e + 1)
-  rest_words = sym rest_same ∙ ⊎_elim (λ (h : e ≡ length l). rest_none (omega arith)) rest_here (eq-or-lt_of_le word_within)
-
-  pub words_step : words_from l i ≡ up_to 32 (drop i l) ∷ words_from l (e + 1)
-  unfolding words_from
-  words_step = rw (le-leb _ _ within) (ap (λ ws. up_to 32 (drop i l) ∷ ws) rest_words)
-
-  -- whether that word is the one that is sought
-  pub index_here : (w : List ℕ) → same w (take (e - i) (drop i l)) ≡ true → index_in (words_from l i) w ≡ 0
-  index_here w t = let u : same w (up_to 32 (drop i l)) ≡ true = rw word_part at t in rw (words_step, u)
-
-  pub index_next : (w : List ℕ) → same w (take (e - i) (drop i l)) ≡ false → index_in (words_from l i) w ≡ suc (index_in (words_from l (e + 1)) w)
-  index_next w t = let u : same w (up_to 32 (drop i l)) ≡ false = rw word_part at t in rw (words_step, u)
-
-pub words_past : (l : List ℕ) (i : ℕ) → length l < i → words_from l i ≡ []
-unfolding words_from
-words_past l i h = rw (lt-leb _ _ h)
-
--- ---- two texts
-pub same_length : (a b : List ℕ) → (length a ≡ length b → ⊥) → same a b ≡ false
-same_length [] [] n = absurd (n refl)
-same_length [] (y ∷ b) n = refl
-same_length (x ∷ a) [] n = refl
-same_length (x ∷ a) (y ∷ b) n = by_test (eqb x y) (λ t. simp (t, same_length a b (λ e. n (ap suc e)))) (λ t. simp t)
-
-module _ (a b : List ℕ) (i : ℕ) where
-  pub same_next : i < length a → i < length b → get_or a i 0 ≡ get_or b i 0 → same (drop i a) (drop i b) ≡ same (drop (i + 1) a) (drop (i + 1) b)
-  same_next h k e = rw (drop-cons a i 0 h, drop-cons b i 0 k, eq-eqb _ _ e, add-one i)
-
-  pub same_apart : i < length a → i < length b → (get_or a i 0 ≡ get_or b i 0 → ⊥) → same (drop i a) (drop i b) ≡ false
-  same_apart h k n = rw (drop-cons a i 0 h, drop-cons b i 0 k, ne_eqb _ _ n)
-
-  pub same_end : length a ≤ i → length b ≤ i → same (drop i a) (drop i b) ≡ true
-  same_end h k = rw (drop_of_length-le a h, drop_of_length-le b k)
+pub word_last : {F : Type 0} (s : Split ℕ F) → split_done s ≡ true → words_left s ≡ []
+word_last s e = ap (λ b. cond b [] (slice_split (λ b. nat_eq b 32) (split_rest s))) e

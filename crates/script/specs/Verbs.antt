@@ -1,5 +1,7 @@
 -- The verbs of a script and their names.
-use Rattle.std.specs.Prelude.{ℕ, cond, List, [], ◌∷◌, map}
+use Rattle.std.specs.List.{find}
+use Rattle.std.specs.Option.{option_map}
+use Rattle.std.specs.Prelude.{ℕ, List, [], ◌∷◌, map, Option}
 use Prim.Native.String.{String}
 use Rattle.script.specs.declared.verb.CloseVerb.TheVariants as close
 use Rattle.script.specs.declared.verb.InputVerb.TheVariants as input
@@ -8,7 +10,7 @@ use Rattle.script.specs.declared.verb.ReadVerb.TheVariants as read
 use Rattle.script.specs.declared.verb.RouterVerb.TheVariants as router
 use Rattle.script.specs.declared.verb.SessionVerb.TheVariants as session
 use Rattle.script.specs.declared.verb.StepVerb.TheVariants.{Panel, Input, ReleaseDevicePointerCaptures, RegisterSurfaceSystemShortcutSet, Arbitrate, Close, Router, Read}
-use Rattle.script.specs.declared.verb.Verb.TheVariants.{Unknown, Session, Step}
+use Rattle.script.specs.declared.verb.Verb.TheVariants.{Session, Step}
 use Rattle.script.specs.declared.verb.Verb.{Verb}
 use Rattle.script.specs.Texts.{bytes}
 use Rattle.script.specs.Words.{same}
@@ -59,15 +61,10 @@ table =
     ("router_state", Session session.RouterState) ∷
     []
 
--- the verbs, in the order of the table
-abbrev pub verbs : List Verb
-verbs = map (λ e. e.1) table
-
--- the verb that a table has for a name
-abbrev pub verb_in : List (String × Verb) → List ℕ → Verb
-verb_in [] w = Unknown
-verb_in (e ∷ t) w = cond (same w (bytes e.0)) e.1 (verb_in t w)
+-- the verb beside the first of a table's names that is a text
+abbrev pub verb_of : List (List ℕ × Verb) → List ℕ → Option Verb
+verb_of t w = option_map (λ e. e.1) (find (λ e. same e.0 w) t)
 
 -- the verb that a word names
-unfoldable pub verb_named : List ℕ → Verb
-verb_named w = verb_in table w
+unfoldable pub verb_named : List ℕ → Option Verb
+verb_named w = verb_of (map (λ e. (bytes e.0, e.1)) table) w

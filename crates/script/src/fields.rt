@@ -1,60 +1,12 @@
-// The fields of a line by their range. A number out of range reads as 0 that does not fit.
-ghost use Rattle.std.specs.Prelude.{◌≡◌, ◌≤◌, eqb, get_or};
+// The fields of a line by their range. A number out of a field's range is none of the field's.
+ghost use Rattle.std.specs.Prelude.{◌≡◌, Option, get_or};
 ghost use Rattle.lists.specs.Numbers.{max_u64};
+ghost use Rattle.script.specs.declared.number.Number.{Number};
 ghost use Rattle.script.specs.Lines.{zero_number};
-ghost use Rattle.script.specs.Ranges.{unsigned_of, is_within, signed_of, is_within_signed};
+ghost use Rattle.script.specs.Ranges.{unsigned_of, sized_of, signed_of, flag_of};
 
 use crate::line::Fields;
 use crate::number::Number;
-
-#[derive(Clone, Copy)]
-pub struct FieldU64 {
-    pub value: u64,
-    pub fits: bool,
-}
-
-#[derive(Clone, Copy)]
-pub struct FieldU32 {
-    pub value: u32,
-    pub fits: bool,
-}
-
-#[derive(Clone, Copy)]
-pub struct FieldU16 {
-    pub value: u16,
-    pub fits: bool,
-}
-
-#[derive(Clone, Copy)]
-pub struct FieldU8 {
-    pub value: u8,
-    pub fits: bool,
-}
-
-#[derive(Clone, Copy)]
-pub struct FieldI64 {
-    pub value: i64,
-    pub fits: bool,
-}
-
-#[derive(Clone, Copy)]
-pub struct FieldI32 {
-    pub value: i32,
-    pub fits: bool,
-}
-
-#[derive(Clone, Copy)]
-pub struct FieldI16 {
-    pub value: i16,
-    pub fits: bool,
-}
-
-// A field that is 0 or 1.
-#[derive(Clone, Copy)]
-pub struct FieldFlag {
-    pub value: bool,
-    pub fits: bool,
-}
 
 // The number at an index; past the table it is 0.
 pub fn field(fields: Fields, i: usize) -> Number
@@ -70,119 +22,84 @@ pub fn field(fields: Fields, i: usize) -> Number
 }
 
 // A number from 0 to `most`.
-pub fn as_at_most(n: Number, most: u64) -> FieldU64
-    ensures { result ≡ record { value = unsigned_of most n; fits = is_within most n } }
+pub fn as_at_most(n: Number, most: u64) -> Option<u64>
+    ensures { result ≡ unsigned_of most n }
 {
+    (!n.negative && n.magnitude <= most).then_some(n.magnitude)
+}
+
+// A number that fits a signed 64 bits with either sign.
+fn as_i64(n: Number) -> Option<i64>
+    ensures { result ≡ sized_of 9223372036854775807 n }
+{
+    let magnitude = i64::try_from(n.magnitude).ok()?;
     if n.negative {
-        return FieldU64 {
-            value: 0,
-            fits: false,
-        };
-    }
-    if n.magnitude > most {
-        return FieldU64 {
-            value: 0,
-            fits: false,
-        };
-    }
-    FieldU64 {
-        value: n.magnitude,
-        fits: true,
+        Some(-magnitude)
+    } else {
+        Some(magnitude)
     }
 }
 
-// The other ranges: by the number's own type.
-pub fn as_u64(n: Number) -> FieldU64
-    ensures { result ≡ record { value = unsigned_of max_u64 n; fits = is_within max_u64 n } }
-{
-    as_at_most(n, u64::MAX)
+// A type that a field may have, with the numbers in its range.
+pub trait FieldType: Sized {
+    ghost value_of: { Number → Option Self };
+
+    fn from_number(n: Number) -> Option<Self>
+        ensures { result ≡ value_of n };
 }
 
-pub fn as_u32(n: Number) -> FieldU32
-    ensures { result ≡ record { value = unsigned_of 4294967295 n; fits = is_within 4294967295 n } }
-{
-    let read = as_at_most(n, 4294967295);
-    FieldU32 {
-        value: read.value as u32,
-        fits: read.fits,
-    }
-}
+impl FieldType for u64 {
+    ghost value_of = { unsigned_of max_u64 };
 
-pub fn as_u16(n: Number) -> FieldU16
-    ensures { result ≡ record { value = unsigned_of 65535 n; fits = is_within 65535 n } }
-{
-    let read = as_at_most(n, 65535);
-    FieldU16 {
-        value: read.value as u16,
-        fits: read.fits,
+    fn from_number(n: Number) -> Option<u64> {
+        as_at_most(n, u64::MAX)
     }
 }
 
-pub fn as_u8(n: Number) -> FieldU8
-    ensures { result ≡ record { value = unsigned_of 255 n; fits = is_within 255 n } }
-{
-    let read = as_at_most(n, 255);
-    FieldU8 {
-        value: read.value as u8,
-        fits: read.fits,
+impl FieldType for u32 {
+    ghost value_of = { unsigned_of 4294967295 };
+
+    fn from_number(n: Number) -> Option<u32> {
+        u32::try_from(as_at_most(n, u64::MAX)?).ok()
     }
 }
 
-pub fn as_flag(n: Number) -> FieldFlag
-    ensures { result ≡ record { value = eqb (unsigned_of 1 n) 1; fits = is_within 1 n } }
-{
-    let read = as_at_most(n, 1);
-    FieldFlag {
-        value: read.value == 1,
-        fits: read.fits,
+impl FieldType for u16 {
+    ghost value_of = { unsigned_of 65535 };
+
+    fn from_number(n: Number) -> Option<u16> {
+        u16::try_from(as_at_most(n, u64::MAX)?).ok()
     }
 }
 
-// A number from -most - 1 to most.
-fn as_signed(n: Number, most: u64) -> FieldI64
-    requires { most ≤ 2147483647 }
-    ensures { result ≡ record { value = signed_of most n; fits = is_within_signed most n } }
-{
-    if n.negative {
-        if n.magnitude > most + 1 {
-            return FieldI64 {
-                value: 0,
-                fits: false,
-            };
-        }
-        return FieldI64 {
-            value: 0 - (n.magnitude as i64),
-            fits: true,
-        };
-    }
-    if n.magnitude > most {
-        return FieldI64 {
-            value: 0,
-            fits: false,
-        };
-    }
-    FieldI64 {
-        value: n.magnitude as i64,
-        fits: true,
+impl FieldType for u8 {
+    ghost value_of = { unsigned_of 255 };
+
+    fn from_number(n: Number) -> Option<u8> {
+        u8::try_from(as_at_most(n, u64::MAX)?).ok()
     }
 }
 
-pub fn as_i32(n: Number) -> FieldI32
-    ensures { result ≡ record { value = signed_of 2147483647 n; fits = is_within_signed 2147483647 n } }
-{
-    let read = as_signed(n, 2147483647);
-    FieldI32 {
-        value: read.value as i32,
-        fits: read.fits,
+impl FieldType for bool {
+    ghost value_of = { flag_of };
+
+    fn from_number(n: Number) -> Option<bool> {
+        Some(as_at_most(n, 1)? == 1)
     }
 }
 
-pub fn as_i16(n: Number) -> FieldI16
-    ensures { result ≡ record { value = signed_of 32767 n; fits = is_within_signed 32767 n } }
-{
-    let read = as_signed(n, 32767);
-    FieldI16 {
-        value: read.value as i16,
-        fits: read.fits,
+impl FieldType for i32 {
+    ghost value_of = { signed_of 2147483647 };
+
+    fn from_number(n: Number) -> Option<i32> {
+        i32::try_from(as_i64(n)?).ok()
+    }
+}
+
+impl FieldType for i16 {
+    ghost value_of = { signed_of 32767 };
+
+    fn from_number(n: Number) -> Option<i16> {
+        i16::try_from(as_i64(n)?).ok()
     }
 }

@@ -1,12 +1,11 @@
 // A line of a script as a call: its verb and its numbers.
 ghost use Rattle.std.specs.Prelude.{◌≡◌, []};
 ghost use Rattle.script.specs.Examples.{LineExamples};
-ghost use Rattle.script.specs.Words.{words_from};
-ghost use Rattle.script.specs.Lines.{no_call, gathered, line_of, is_skipped};
+ghost use Rattle.script.specs.Lines.{line_of, is_skipped};
 
+use crate::fault::LineFault;
 use crate::number::{Number, read_number};
 use crate::verb::{Verb, verb_named};
-use crate::words::find;
 
 // The numbers of a line. Unused places hold 0.
 #[derive(Clone, Copy)]
@@ -15,85 +14,44 @@ pub struct Fields {
     pub count: usize,
 }
 
-// A call. A line that is none has the verb `Unknown`, and its fields then mean nothing.
 #[derive(Clone, Copy)]
 pub struct Line {
     pub verb: Verb,
     pub fields: Fields,
 }
 
-fn no_call() -> Line
-    ensures { result ≡ no_call }
-{
-    let zero = Number {
-        negative: false,
-        magnitude: 0,
-    };
-    let fields = Fields {
-        numbers: [zero; 256],
-        count: 0,
-    };
-    Line {
-        verb: Verb::Unknown,
-        fields: fields,
-    }
-}
-
-// The call of a verb with the numbers that are the words from an index on.
-fn read_fields(verb: Verb, line: &[u8], from: usize) -> Line
-    ensures { result ≡ gathered verb [] (words_from line.now from) }
-{
-    let zero = Number {
-        negative: false,
-        magnitude: 0,
-    };
-    let mut numbers = [zero; 256];
-    let mut count = 0;
-    let mut at = from;
-    while at <= line.len() {
-        let end = find(line, at, b' ');
-        let reading = read_number(&line[at..end]);
-        if reading.is_number {} else {
-            return no_call();
-        }
-        if count >= 256 {
-            return no_call();
-        }
-        let number = reading.number;
-        numbers[count] = number;
-        count += 1;
-        at = end + 1;
-    }
-    let fields = Fields {
-        numbers: numbers,
-        count: count,
-    };
-    Line {
-        verb: verb,
-        fields: fields,
-    }
-}
-
-// The call that a line writes, without its line feed.
-pub fn parse(line: &[u8]) -> Line
+// The call that a line writes, without its line feed, or the first thing that is wrong with it.
+pub fn parse(line: &[u8]) -> Result<Line, LineFault>
     ensures { result ≡ line_of line.now }
 {
     if line.len() > 4096 {
-        return no_call();
+        return Err(LineFault::LongLine);
     }
-    let end = find(line, 0, b' ');
-    let verb = verb_named(&line[..end]);
-    read_fields(verb, line, end + 1)
+    let mut words = line.split(|b| *b == b' ');
+    let verb = verb_named(words.next().unwrap_or(&[])).ok_or(LineFault::UnknownVerb)?;
+    let mut fields = Fields {
+        numbers: [Number {
+            negative: false,
+            magnitude: 0,
+        }; 256],
+        count: 0,
+    };
+    for word in words {
+        let number = read_number(word).ok_or(LineFault::MalformedNumber)?;
+        if fields.count >= 256 {
+            return Err(LineFault::MalformedNumber);
+        }
+        fields.numbers[fields.count] = number;
+        fields.count += 1;
+    }
+    Ok(Line { verb, fields })
 }
 
 // Whether a line is passed over with no answer: it is empty, or a comment.
 pub fn is_skipped(line: &[u8]) -> bool
     ensures { result ≡ is_skipped line.now }
 {
-    if line.len() == 0 {
-        return true;
-    }
-    line[0] == b'#'
+    matches!(line, [] | [b'#', ..])
 }
 
 // Worked examples of lines.

@@ -1,8 +1,6 @@
 // The verbs of a script, by name.
-ghost use Rattle.std.specs.Prelude.{◌≡◌, get_or};
-ghost use Rattle.script.specs.Verbs.{verbs, verb_named};
-
-use crate::words::index_of_word;
+ghost use Rattle.std.specs.Prelude.{◌≡◌, map};
+ghost use Rattle.script.specs.Verbs.{verb_of, verb_named};
 
 // The script's own: digests, a new registry, a new router, dumps.
 #[derive(Clone, Copy)]
@@ -83,79 +81,158 @@ pub enum StepVerb {
     Read(ReadVerb),
 }
 
-// What a line asks for. `Unknown` stands for a line that is no call.
+// What a line asks for.
 #[derive(Clone, Copy)]
 pub enum Verb {
-    Unknown,
     Session(SessionVerb),
     Step(StepVerb),
 }
 
-// The verbs in the order of their names.
-const VERBS: [Verb; 41] = [
-    Verb::Session(SessionVerb::Digest),
-    Verb::Session(SessionVerb::New),
-    Verb::Session(SessionVerb::NewAt),
-    Verb::Session(SessionVerb::Router),
-    Verb::Step(StepVerb::Panel(PanelVerb::CreateWindow)),
-    Verb::Step(StepVerb::Panel(PanelVerb::CloseWindow)),
-    Verb::Step(StepVerb::Panel(PanelVerb::CreateView)),
-    Verb::Step(StepVerb::Panel(PanelVerb::UpdateViewMetrics)),
-    Verb::Step(StepVerb::Panel(PanelVerb::CloseView)),
-    Verb::Step(StepVerb::Panel(PanelVerb::AttachSurface)),
-    Verb::Step(StepVerb::Panel(PanelVerb::UpdateSurfaceGeometry)),
-    Verb::Step(StepVerb::Panel(PanelVerb::UpdateSurfaceInputPolicy)),
-    Verb::Step(StepVerb::RegisterSurfaceSystemShortcutSet),
-    Verb::Step(StepVerb::Input(InputVerb::SetFocus)),
-    Verb::Step(StepVerb::Input(InputVerb::CapturePointer)),
-    Verb::Step(StepVerb::Input(InputVerb::CapturePointerFor)),
-    Verb::Step(StepVerb::Input(InputVerb::ReleasePointer)),
-    Verb::Step(StepVerb::Input(InputVerb::ReleasePointerFor)),
-    Verb::Step(StepVerb::ReleaseDevicePointerCaptures),
-    Verb::Step(StepVerb::Input(InputVerb::BeginIme)),
-    Verb::Step(StepVerb::Input(InputVerb::EndIme)),
-    Verb::Step(StepVerb::Input(InputVerb::SuspendViewInput)),
-    Verb::Step(StepVerb::Arbitrate),
-    Verb::Step(StepVerb::Close(CloseVerb::CloseSurface)),
-    Verb::Step(StepVerb::Close(CloseVerb::Shutdown)),
-    Verb::Step(StepVerb::Read(ReadVerb::HitTestStack)),
-    Verb::Step(StepVerb::Read(ReadVerb::InversePoint)),
-    Verb::Step(StepVerb::Router(RouterVerb::Route)),
-    Verb::Step(StepVerb::Router(RouterVerb::ReleaseSurface)),
-    Verb::Step(StepVerb::Router(RouterVerb::ReleaseAll)),
-    Verb::Step(StepVerb::Read(ReadVerb::ViewWindow)),
-    Verb::Step(StepVerb::Read(ReadVerb::ViewMetrics)),
-    Verb::Step(StepVerb::Read(ReadVerb::ViewInputState)),
-    Verb::Step(StepVerb::Read(ReadVerb::ViewPointerCaptures)),
-    Verb::Step(StepVerb::Read(ReadVerb::SurfaceDescriptor)),
-    Verb::Step(StepVerb::Read(ReadVerb::ViewLayers)),
-    Verb::Step(StepVerb::Read(ReadVerb::Traces)),
-    Verb::Step(StepVerb::Read(ReadVerb::Counts)),
-    Verb::Step(StepVerb::Read(ReadVerb::ActiveBindingCount)),
-    Verb::Session(SessionVerb::State),
-    Verb::Session(SessionVerb::RouterState),
+// Each verb with its name.
+const VERBS: [(&str, Verb); 41] = [
+    ("digest", Verb::Session(SessionVerb::Digest)),
+    ("new", Verb::Session(SessionVerb::New)),
+    ("new_at", Verb::Session(SessionVerb::NewAt)),
+    ("router", Verb::Session(SessionVerb::Router)),
+    (
+        "create_window",
+        Verb::Step(StepVerb::Panel(PanelVerb::CreateWindow)),
+    ),
+    (
+        "close_window",
+        Verb::Step(StepVerb::Panel(PanelVerb::CloseWindow)),
+    ),
+    (
+        "create_view",
+        Verb::Step(StepVerb::Panel(PanelVerb::CreateView)),
+    ),
+    (
+        "update_view_metrics",
+        Verb::Step(StepVerb::Panel(PanelVerb::UpdateViewMetrics)),
+    ),
+    (
+        "close_view",
+        Verb::Step(StepVerb::Panel(PanelVerb::CloseView)),
+    ),
+    (
+        "attach_surface",
+        Verb::Step(StepVerb::Panel(PanelVerb::AttachSurface)),
+    ),
+    (
+        "update_surface_geometry",
+        Verb::Step(StepVerb::Panel(PanelVerb::UpdateSurfaceGeometry)),
+    ),
+    (
+        "update_surface_input_policy",
+        Verb::Step(StepVerb::Panel(PanelVerb::UpdateSurfaceInputPolicy)),
+    ),
+    (
+        "register_surface_system_shortcut_set",
+        Verb::Step(StepVerb::RegisterSurfaceSystemShortcutSet),
+    ),
+    (
+        "set_focus",
+        Verb::Step(StepVerb::Input(InputVerb::SetFocus)),
+    ),
+    (
+        "capture_pointer",
+        Verb::Step(StepVerb::Input(InputVerb::CapturePointer)),
+    ),
+    (
+        "capture_pointer_for",
+        Verb::Step(StepVerb::Input(InputVerb::CapturePointerFor)),
+    ),
+    (
+        "release_pointer",
+        Verb::Step(StepVerb::Input(InputVerb::ReleasePointer)),
+    ),
+    (
+        "release_pointer_for",
+        Verb::Step(StepVerb::Input(InputVerb::ReleasePointerFor)),
+    ),
+    (
+        "release_device_pointer_captures",
+        Verb::Step(StepVerb::ReleaseDevicePointerCaptures),
+    ),
+    (
+        "begin_ime",
+        Verb::Step(StepVerb::Input(InputVerb::BeginIme)),
+    ),
+    ("end_ime", Verb::Step(StepVerb::Input(InputVerb::EndIme))),
+    (
+        "suspend_view_input",
+        Verb::Step(StepVerb::Input(InputVerb::SuspendViewInput)),
+    ),
+    ("arbitrate", Verb::Step(StepVerb::Arbitrate)),
+    (
+        "close_surface",
+        Verb::Step(StepVerb::Close(CloseVerb::CloseSurface)),
+    ),
+    ("shutdown", Verb::Step(StepVerb::Close(CloseVerb::Shutdown))),
+    (
+        "hit_test_stack",
+        Verb::Step(StepVerb::Read(ReadVerb::HitTestStack)),
+    ),
+    (
+        "inverse_point",
+        Verb::Step(StepVerb::Read(ReadVerb::InversePoint)),
+    ),
+    ("route", Verb::Step(StepVerb::Router(RouterVerb::Route))),
+    (
+        "release_surface",
+        Verb::Step(StepVerb::Router(RouterVerb::ReleaseSurface)),
+    ),
+    (
+        "release_all",
+        Verb::Step(StepVerb::Router(RouterVerb::ReleaseAll)),
+    ),
+    (
+        "view_window",
+        Verb::Step(StepVerb::Read(ReadVerb::ViewWindow)),
+    ),
+    (
+        "view_metrics",
+        Verb::Step(StepVerb::Read(ReadVerb::ViewMetrics)),
+    ),
+    (
+        "view_input_state",
+        Verb::Step(StepVerb::Read(ReadVerb::ViewInputState)),
+    ),
+    (
+        "view_pointer_captures",
+        Verb::Step(StepVerb::Read(ReadVerb::ViewPointerCaptures)),
+    ),
+    (
+        "surface_descriptor",
+        Verb::Step(StepVerb::Read(ReadVerb::SurfaceDescriptor)),
+    ),
+    (
+        "view_layers",
+        Verb::Step(StepVerb::Read(ReadVerb::ViewLayers)),
+    ),
+    ("traces", Verb::Step(StepVerb::Read(ReadVerb::Traces))),
+    ("counts", Verb::Step(StepVerb::Read(ReadVerb::Counts))),
+    (
+        "active_binding_count",
+        Verb::Step(StepVerb::Read(ReadVerb::ActiveBindingCount)),
+    ),
+    ("state", Verb::Session(SessionVerb::State)),
+    ("router_state", Verb::Session(SessionVerb::RouterState)),
 ];
 
-fn verb_at(i: usize) -> Verb
-    ensures { result ≡ get_or verbs i Verb.Unknown }
+// The verb beside a name in a table.
+fn verb_in(table: &[(&str, Verb)], word: &[u8]) -> Option<Verb>
+    ensures { result ≡ verb_of (map (λ e. (e.0.now, e.1)) table.now) word.now }
 {
-    if i < 41 {
-        return VERBS[i];
-    }
-    Verb::Unknown
+    table
+        .iter()
+        .find(|(name, _)| name.as_bytes() == word)
+        .map(|(_, verb)| *verb)
 }
 
 // The verb that a word names.
-pub fn verb_named(word: &[u8]) -> Verb
+pub fn verb_named(word: &[u8]) -> Option<Verb>
     ensures { result ≡ verb_named word.now }
 {
-    let names =
-        b"digest new new_at router create_window close_window create_view update_view_metrics close_view \
-        attach_surface update_surface_geometry update_surface_input_policy \
-        register_surface_system_shortcut_set set_focus capture_pointer capture_pointer_for release_pointer \
-        release_pointer_for release_device_pointer_captures begin_ime end_ime suspend_view_input arbitrate \
-        close_surface shutdown hit_test_stack inverse_point route release_surface release_all view_window \
-        view_metrics view_input_state view_pointer_captures surface_descriptor view_layers traces counts \
-        active_binding_count state router_state";
-    verb_at(index_of_word(names, word))
+    verb_in(&VERBS, word)
 }

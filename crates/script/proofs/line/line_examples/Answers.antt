@@ -1,12 +1,12 @@
 -- `line_examples` meets its contract: each example is computed.
 use mathlib.Core.Path.{refl}
-use Rattle.script.specs.Lines.{no_call, gathered, line_of}
+use Rattle.script.specs.Lines.{gathered, line_of}
 use Rattle.script.specs.Numbers.{push_digit, digits_of, magnitude_of, number_of}
 use Rattle.script.specs.Verbs.{verb_named}
 use Rattle.script.proofs.line.line_examples.Goals as goal
 
 pub returns : goal.returns
-unfolding push_digit digits_of magnitude_of number_of verb_named no_call gathered line_of
+unfolding push_digit digits_of magnitude_of number_of verb_named gathered line_of
 returns c =
     record {
       one_number = refl;

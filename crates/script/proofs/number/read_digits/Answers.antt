@@ -1,16 +1,18 @@
--- `read_digits` meets its contract: after i turns the number is that of the first i digits.
-use mathlib.Core.Path.{refl, sym, ◌∙◌}
-use lib.Seq.{take_all}
-use Rattle.script.specs.Numbers.{digits_of}
-use Rattle.script.proofs.NumberLaws.{fold_next}
+-- `read_digits` meets its contract: the digits to come make what all of them make.
+use Rattle.std.proofs.Common.{sym, ap, ◌∙◌, drop, ◌+◌}
+use mathlib.Core.List.{foldl}
+use lib.ListN.{drop_of_length-le}
+use Rattle.script.proofs.NumberLaws.{digit_next, digit_stops}
+use Rattle.script.specs.Numbers.{digits_of, push_behind}
 use Rattle.script.proofs.number.read_digits.Goals as goal
 
-pub loop-i-init : goal.loop-i-init
-loop-i-init c = refl
+pub returns-in_err-n : goal.returns-in_err-n
+unfolding digits_of
+returns-in_err-n c = c.from_residual.ensures ∙ sym (c.loop-b.invariant ∙ digit_stops _ _ _ c.loop-b-test.true (sym c.in_err-n.ensures))
 
-pub loop-i-preserved : goal.loop-i-preserved
-loop-i-preserved c = c.push_digit-m.ensures ∙ rw c.loop-i.invariant (sym (fold_next _ _ _ _ c.loop-i-test.true))
+pub loop-b-preserved : goal.loop-b-preserved
+loop-b-preserved c = c.loop-b.invariant ∙ digit_next _ _ _ c.loop-b-test.true ∙ ap (λ o. foldl push_behind o (drop (c.loop-b.b-index + 1) c.args.s.now)) (sym c.in_ok-n.ensures)
 
 pub returns : goal.returns
 unfolding digits_of
-returns c = c.loop-i.invariant ∙ rw (take_all _ _ c.loop-i-test.false)
+returns c = sym (c.loop-b.invariant ∙ rw (drop_of_length-le _ c.loop-b-test.false))

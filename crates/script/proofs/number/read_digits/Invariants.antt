@@ -1,13 +1,9 @@
--- `read_digits` meets its contract: after i turns the number is that of the first i digits.
-use Prim.Native.Nat.{◌-◌}
+-- `read_digits` meets its contract: the digits to come make what all of them make.
+use Rattle.std.proofs.Common.{◌≡◌, drop}
+use Rattle.std.specs.Prelude.{Some}
 use mathlib.Core.List.{foldl}
-use mathlib.Core.Path.{◌≡◌}
-use lib.ListN.{length, take}
-use Rattle.script.specs.Numbers.{push_digit}
+use Rattle.script.specs.Numbers.{push_behind}
 use Rattle.script.proofs.number.read_digits.Given as goal
 
-abbrev pub invariant-loop-i : goal.invariant-loop-i
-invariant-loop-i l = l.m ≡ foldl push_digit l.initial.m (take l.i l.s)
-
-abbrev pub decreases-loop-i : goal.decreases-loop-i
-decreases-loop-i l = length l.s - l.i
+abbrev pub invariant-loop-b : goal.invariant-loop-b
+invariant-loop-b l = foldl push_behind (Some 0) l.s ≡ foldl push_behind (Some l.n) (drop l.b-index l.s)
