@@ -9,30 +9,26 @@ use lib.Dec.{eqb, ltb}
 use lib.ListN.{length, get_or, get_or-append}
 use borrow.Author.Tests.{ltb-true, ltb-false, ne_eqb}
 use Rattle.lists.proofs.ListLaws.{by_test}
-use Rattle.script.proofs.NumberLaws.{push_more}
+use Rattle.std.proofs.lemmas.Bool.Decides.{nat_tests}
+use Rattle.std.specs.Prelude.{Option, Some}
 use Rattle.script.specs.Numbers.{push_digit, digits_of, is_led, magnitude_of, number_of}
-use Rattle.script.specs.declared.number.Magnitude.{Magnitude}
 use Rattle.answer_text.proofs.DecimalLaws.{decimal_one, decimal_more, length_one, length_more, shorter}
 use Rattle.answer_text.specs.Decimal.{decimal}
 use Rattle.line_input.specs.Claims.{RoundTripClaims}
 
-abbrev whole : ℕ → Magnitude
-whole n = record { value = n; fits = true }
-
 -- ---- the digits make the number
-digit_read : (q d : ℕ) → d < 10 → q * 10 + d < 2 ^ 64 → push_digit (whole q) (48 + d) ≡ whole (q * 10 + d)
-digit_read q d h b =
-    let less : 48 + d - 48 ≡ d = omega arith in
-    push_more (whole q) (48 + d) refl (omega arith) (omega arith) (omega arith) ∙ rw less
+digit_read : (q d : ℕ) → d < 10 → q * 10 + d < 2 ^ 64 → push_digit q (48 + d) ≡ Some (q * 10 + d)
+unfolding push_digit
+digit_read q d h b = let less : 48 + d - 48 ≡ d = omega arith in rw less (grind (arith, nat_tests))
 
-digits_one : (n : ℕ) → n < 10 → digits_of (decimal n) ≡ whole n
+digits_one : (n : ℕ) → n < 10 → digits_of (decimal n) ≡ Some n
 unfolding digits_of
-digits_one n h = rw (decimal_one n h) (digit_read 0 n h (omega arith) ∙ ap whole (zero_times n))
+digits_one n h = rw (decimal_one n h) (digit_read 0 n h (omega arith) ∙ ap Some (zero_times n))
   where
     zero_times : (n : ℕ) → 0 * 10 + n ≡ n
     zero_times n = omega arith
 
-digits_within : (f n : ℕ) → n ≤ f → n < 2 ^ 64 → digits_of (decimal n) ≡ whole n
+digits_within : (f n : ℕ) → n ≤ f → n < 2 ^ 64 → digits_of (decimal n) ≡ Some n
 unfolding digits_of
 digits_within zero n h b = digits_one n (small n h)
   where
@@ -46,8 +42,8 @@ digits_within (suc f) n h b =
     parts : (n : ℕ) → n / 10 * 10 + n % 10 ≡ n
     parts n = omega arith
 
-    more : (n f : ℕ) → n ≤ suc f → n < 2 ^ 64 → 10 ≤ n → digits_of (decimal (n / 10)) ≡ whole (n / 10) → digits_of (decimal n) ≡ whole n
-    more n f h b t ih = rw (decimal_more n (omega arith) t, foldl-append, ih) (digit_read (n / 10) (n % 10) (omega arith) (omega arith) ∙ ap whole (parts n))
+    more : (n f : ℕ) → n ≤ suc f → n < 2 ^ 64 → 10 ≤ n → digits_of (decimal (n / 10)) ≡ Some (n / 10) → digits_of (decimal n) ≡ Some n
+    more n f h b t ih = rw (decimal_more n (omega arith) t, foldl-append, ih) (digit_read (n / 10) (n % 10) (omega arith) (omega arith) ∙ ap Some (parts n))
 
 -- ---- the first digit
 -- the first byte of decimal digits is one of `0` to `9`, and `0` only in 0
@@ -95,7 +91,7 @@ led_is (suc n) b =
     over : (k : ℕ) → 48 < k → k ≡ 48 → ⊥
     over k h e = omega arith
 
-magnitude_is : (n : ℕ) → n < 2 ^ 64 → magnitude_of (decimal n) ≡ whole n
+magnitude_is : (n : ℕ) → n < 2 ^ 64 → magnitude_of (decimal n) ≡ Some n
 unfolding magnitude_of
 magnitude_is n b = rw (led_is n b) (digits_within n n (le_refl n) b)
 

@@ -9,6 +9,7 @@ ghost use Rattle.line_input.specs.Claims.{RoundTripClaims};
 ghost use Rattle.line_input.specs.LineInput.{line_taken, next_place, is_complete};
 
 use answer_text::put::put_clipped;
+use script::fault::LineFault;
 use script::line::Line;
 use script::words::find;
 
@@ -30,48 +31,27 @@ pub fn take_line(line: &mut [u8], len: usize, chunk: &[u8], from: usize) -> Take
     ensures complete_value { result.complete ≡ is_complete chunk.now from }
 {
     let end = find(chunk, from, b'\n');
-    if end < chunk.len() {
-        let filled = put_clipped(line, len, &chunk[from..end]);
-        return Taken {
-            next: end + 1,
-            len: filled,
-            complete: true,
-        };
-    }
-    if from < chunk.len() {
-        let filled = put_clipped(line, len, &chunk[from..end]);
-        return Taken {
-            next: end,
-            len: filled,
-            complete: false,
-        };
-    }
-    let filled = put_clipped(line, len, &chunk[..0]);
+    let filled = put_clipped(line, len, chunk.get(from..end).unwrap_or(&[]));
+    let complete = end < chunk.len();
     Taken {
-        next: end,
+        next: if complete { end + 1 } else { end },
         len: filled,
-        complete: false,
+        complete,
     }
 }
 
 // The call that the first `len` bytes of a buffer write.
-pub fn parse_line(line: &[u8], len: usize) -> Line
+pub fn parse_line(line: &[u8], len: usize) -> Result<Line, LineFault>
     ensures { result ≡ line_of (take len line.now) }
 {
-    if len < line.len() {
-        return script::line::parse(&line[..len]);
-    }
-    script::line::parse(line)
+    script::line::parse(&line[..len.min(line.len())])
 }
 
 // Whether the first `len` bytes of a buffer are an empty line or a comment.
 pub fn is_line_skipped(line: &[u8], len: usize) -> bool
     ensures { result ≡ is_skipped (take len line.now) }
 {
-    if len < line.len() {
-        return script::line::is_skipped(&line[..len]);
-    }
-    script::line::is_skipped(line)
+    script::line::is_skipped(&line[..len.min(line.len())])
 }
 
 // What is written in decimal is read back as the same number.

@@ -105,3 +105,11 @@ module _ {F : Type 0} (g : Mut F (Bor ℕ × Unit {0}) Bool) (s t : Split ℕ F)
 
 pub word_last : {F : Type 0} (s : Split ℕ F) → split_done s ≡ true → words_left s ≡ []
 word_last s e = ap (λ b. cond b [] (slice_split (λ b. nat_eq b 32) (split_rest s))) e
+
+pub up_to_take : (b : ℕ) (l : List ℕ) → take (length (up_to b l)) l ≡ up_to b l
+up_to_take b [] = refl
+up_to_take b (x ∷ l) = step (nat_eq x b) (up_to b l) (up_to_take b l)
+  where
+    step : (t : Bool) (r : List ℕ) → take (length r) l ≡ r → take (length (cond t [] (x ∷ r))) (x ∷ l) ≡ cond t [] (x ∷ r)
+    step true r e = refl
+    step false r e = ap (λ m. x ∷ m) e
