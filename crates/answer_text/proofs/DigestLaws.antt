@@ -5,7 +5,7 @@ use mathlib.Core.Path.{◌≡◌, refl, sym, ap, ◌∙◌}
 use native.Mathlib.Nat.{div-add-mod', add-mul, mul_right_comm, add_assoc, mul-add-mod_self_right, mod-lt, mod-eq_of_lt}
 use lib.Dec.{lit<}
 use Rattle.answer_text.specs.declared.digest.Digest.{Digest}
-use Rattle.answer_text.specs.Digests.{mix_a, mix_b, add_number, start_digest, value_of, digest_of, DigestClaims}
+use Rattle.answer_text.specs.Digests.{mix, add_number, start_digest, value_of, digest_of, DigestClaims}
 
 reduced : (s f p m : ℕ) → (s % m * f + p) % m ≡ (s * f + p) % m
 reduced s f p m =
@@ -28,7 +28,7 @@ Reduced : Digest → Type 0
 Reduced d = (d.a < 4294967291) × (d.b < 4294967279)
 
 add_reduced : (d : Digest) (n : ℕ) → Reduced (add_number d n)
-unfolding mix_a mix_b Reduced
+unfolding mix Reduced
 add_reduced d n = (mod-lt _ (lit< tt), mod-lt _ (lit< tt))
 
 fold_reduced : (l : List ℕ) (d : Digest) → Reduced d → Reduced (foldl add_number d l)
@@ -40,7 +40,7 @@ unfolding Reduced
 value_of_reduced d h = rw (mod-eq_of_lt h.0, mod-eq_of_lt h.1)
 
 pub claims : DigestClaims
-unfolding digest_of mix_a mix_b Reduced
+unfolding digest_of mix Reduced
 claims = record {
   digest_next = λ l n. foldl-append add_number start_digest l (n ∷ []);
   value_plain = λ l. value_of_reduced (digest_of l) (fold_reduced l start_digest (lit< tt, lit< tt));

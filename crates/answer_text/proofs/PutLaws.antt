@@ -4,12 +4,10 @@ use mathlib.Core.Bool.{true, false}
 use mathlib.Core.List.{List, [], ◌∷◌, ◌++◌, append_assoc}
 use mathlib.Core.Path.{◌≡◌, refl, sym, ap, ◌∙◌}
 use native.Mathlib.Nat.{add-zero, add-suc, le_refl}
-use native.Mathlib.Numerals.{add-one}
 use native.Mathlib.Omega.{arith}
 use lib.Dec.{leb}
 use lib.ListN.{length, take, drop, set, length-set, take-append-drop}
-use lib.Seq.{append_snoc, drop-cons, drop-set-lt, get_or-set_same, lt-length-set, set_split, take-set-le, take-take}
-use borrow.Author.Tests.{le-leb, lt-leb}
+use lib.Seq.{append_snoc, drop-cons, drop-set-lt, get_or-set_same, lt-length-set, take-set-le, take-take}
 use Rattle.answer_text.specs.Decimal.{last_digits}
 use Rattle.answer_text.specs.Put.{over, put}
 
@@ -21,16 +19,6 @@ module _ (text buf : List ℕ) (at : ℕ) where
   pub put_no : leb (at + length text) (length buf) ≡ false → put text (buf, at) ≡ (buf, at)
   unfolding put
   put_no t = rw t
-
--- one byte
-module _ (buf : List ℕ) (at b : ℕ) where
-  pub byte_yes : at < length buf → put (b ∷ []) (buf, at) ≡ (set buf at b, at + 1)
-  byte_yes h =
-      put_yes (b ∷ []) buf at (le-leb (at + 1) (length buf) (omega arith))
-      ∙ ap (λ (l : List ℕ). (l, at + 1)) (rw (append_snoc, add-one at) (sym (set_split buf at b h)))
-
-  pub byte_no : length buf ≤ at → put (b ∷ []) (buf, at) ≡ (buf, at)
-  byte_no h = put_no (b ∷ []) buf at (lt-leb (at + 1) (length buf) (omega arith))
 
 -- ---- digits, from the last to the first
 drop_set_same : (l : List ℕ) (i a : ℕ) → i < length l → drop i (set l i a) ≡ a ∷ drop (suc i) l

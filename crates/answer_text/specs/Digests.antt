@@ -3,13 +3,16 @@ use Rattle.std.specs.Prelude.{ℕ, ◌+◌, ◌*◌, ◌/◌, ◌%◌, ◌≡◌
 use mathlib.Core.List.{List, [], ◌∷◌, ◌++◌, foldl}
 use Rattle.answer_text.specs.declared.digest.Digest.{Digest}
 
--- one part taken into the first remainder
-unfoldable pub mix_a : ℕ → ℕ → ℕ
-mix_a a part = (a * 1_000_003 + part + 1) % 4_294_967_291
+-- one part taken into a remainder
+unfoldable pub mix : ℕ → ℕ → ℕ → ℕ → ℕ
+mix factor modulus n part = (n * factor + part + 1) % modulus
 
--- one part taken into the second remainder
-unfoldable pub mix_b : ℕ → ℕ → ℕ
-mix_b b part = (b * 998_244_353 + part + 1) % 4_294_967_279
+-- the first remainder's step, and the second's
+abbrev pub mix_a : ℕ → ℕ → ℕ
+mix_a = mix 1_000_003 4_294_967_291
+
+abbrev pub mix_b : ℕ → ℕ → ℕ
+mix_b = mix 998_244_353 4_294_967_279
 
 -- one part taken into both
 abbrev pub add_part : Digest → ℕ → Digest

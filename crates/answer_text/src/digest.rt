@@ -1,6 +1,6 @@
 // The digest of a list of numbers: two remainders, each number taken in by its two halves.
-ghost use Rattle.std.specs.Prelude.{◌<◌, ◌≡◌};
-ghost use Rattle.answer_text.specs.Digests.{mix_a, mix_b, start_digest, add_number, value_of, DigestClaims};
+ghost use Rattle.std.specs.Prelude.{◌^◌, ◌<◌, ◌≤◌, ◌≡◌};
+ghost use Rattle.answer_text.specs.Digests.{mix, start_digest, add_number, value_of, DigestClaims};
 
 #[derive(Clone, Copy)]
 pub struct Digest {
@@ -9,18 +9,14 @@ pub struct Digest {
 }
 
 // One step of a remainder. The state is reduced first, so that nothing wraps; that changes no answer.
-fn mix_a(a: u64, part: u64) -> u64
-    requires { part < 4294967296 }
-    ensures { result ≡ mix_a a part }
+fn mix<const FACTOR: u64, const MODULUS: u64>(state: u64, part: u64) -> u64
+    requires factor { FACTOR ≤ 2 ^ 30 }
+    requires some { 0 < MODULUS }
+    requires modulus { MODULUS ≤ 2 ^ 32 }
+    requires half { part < 2 ^ 32 }
+    ensures { result ≡ mix FACTOR MODULUS state part }
 {
-    (a % 4294967291 * 1000003 + part + 1) % 4294967291
-}
-
-fn mix_b(b: u64, part: u64) -> u64
-    requires { part < 4294967296 }
-    ensures { result ≡ mix_b b part }
-{
-    (b % 4294967279 * 998244353 + part + 1) % 4294967279
+    (state % MODULUS * FACTOR + part + 1) % MODULUS
 }
 
 impl Digest {
@@ -36,8 +32,8 @@ impl Digest {
         let low = n % 4294967296;
         let high = n / 4294967296;
         Digest {
-            a: mix_a(mix_a(self.a, low), high),
-            b: mix_b(mix_b(self.b, low), high),
+            a: mix::<1000003, 4294967291>(mix::<1000003, 4294967291>(self.a, low), high),
+            b: mix::<998244353, 4294967279>(mix::<998244353, 4294967279>(self.b, low), high),
         }
     }
 

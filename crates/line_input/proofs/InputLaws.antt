@@ -1,13 +1,12 @@
 -- Laws of a line taken out of a chunk, by where its line feed stands.
-use Rattle.std.proofs.Common.{◌≡◌, ℕ, ◌+◌, ◌-◌, ◌≤◌, ◌<◌, List, [], length, take, drop, Bool, true, false, Bor, refl, ap, ◌∙◌, arith, length-drop}
+use Rattle.std.proofs.Common.{◌≡◌, ℕ, ◌+◌, ◌-◌, ◌≤◌, ◌<◌, List, [], length, take, drop, Bor, ap, ◌∙◌, arith, length-drop}
 use Rattle.std.proofs.lemmas.Bool.Decides.{nat_tests}
 use Rattle.std.specs.Option.{unwrap_or}
 use Rattle.std.specs.Prelude.{Option, None, Some}
 use Rattle.std.specs.Slice.{IsGetRangeResult}
-use borrow.Author.Tests.{ltb-true, ltb-false}
 use lib.ListN.{drop_of_length-le}
 use mathlib.Core.Logic.{inl, inr}
-use Rattle.line_input.specs.LineInput.{is_complete, next_place}
+use Rattle.line_input.specs.LineInput.{next_place}
 use Rattle.script.proofs.WordLaws.{up_to_take, up_to_within}
 use Rattle.script.specs.Words.{up_to}
 

@@ -2,7 +2,7 @@
 use Prim.Native.Nat.{ℕ, zero, suc, ◌+◌, ◌*◌, ◌-◌, ◌/◌, ◌%◌, ◌^◌, ◌≤◌, ◌<◌}
 use mathlib.Core.Bool.{true}
 use mathlib.Core.List.{List, [], ◌∷◌, foldl-append}
-use mathlib.Core.Path.{◌≡◌, refl, ap, ◌∙◌}
+use mathlib.Core.Path.{◌≡◌, ap, ◌∙◌}
 use native.Mathlib.Nat.{le_refl}
 use native.Mathlib.Omega.{arith}
 use lib.Dec.{eqb, ltb}
@@ -10,7 +10,7 @@ use lib.ListN.{length, get_or, get_or-append}
 use borrow.Author.Tests.{ltb-true, ltb-false, ne_eqb}
 use Rattle.lists.proofs.ListLaws.{by_test}
 use Rattle.std.proofs.lemmas.Bool.Decides.{nat_tests}
-use Rattle.std.specs.Prelude.{Option, Some}
+use Rattle.std.specs.Prelude.{Some}
 use Rattle.script.specs.Numbers.{push_digit, digits_of, is_led, magnitude_of, number_of}
 use Rattle.answer_text.proofs.DecimalLaws.{decimal_one, decimal_more, length_one, length_more, shorter}
 use Rattle.answer_text.specs.Decimal.{decimal}

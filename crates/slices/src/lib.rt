@@ -10,8 +10,5 @@ ghost use Rattle.slices.specs.Parts.{least};
 pub fn least(k: usize, n: usize) -> usize
     ensures { result ≡ least k n }
 {
-    if k < n {
-        return k;
-    }
-    n
+    k.min(n)
 }

@@ -4,6 +4,3 @@ use Rattle.answer_text.proofs.put.put_digits.Given as goal
 
 abbrev pub invariant-loop-j : goal.invariant-loop-j
 invariant-loop-j l = Spelling l.at l.n l.k l.initial.buf l.buf l.j l.rest
-
-abbrev pub decreases-loop-j : goal.decreases-loop-j
-decreases-loop-j l = l.j

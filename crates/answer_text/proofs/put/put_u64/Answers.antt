@@ -2,11 +2,10 @@
 use Prim.Native.Nat.{ℕ, ◌+◌, ◌^◌, ◌<◌}
 use mathlib.Core.Bool.{Bool, true}
 use mathlib.Core.List.{List, ◌++◌}
-use mathlib.Core.Path.{◌≡◌, sym, ◌∙◌}
+use mathlib.Core.Path.{◌≡◌, sym}
 use native.Mathlib.Omega.{arith}
 use lib.Dec.{leb}
 use lib.ListN.{length, take, drop}
-use borrow.Author.Tests.{leb-true}
 use Rattle.answer_text.specs.Decimal.{decimal, last_digits}
 use Rattle.answer_text.specs.Put.{over, put}
 use Rattle.answer_text.proofs.DecimalLaws.{all_digits}
@@ -23,14 +22,8 @@ spelled buf at k n b e = rw (e, all_digits n b)
 put_is : (buf : List ℕ) (at k n : ℕ) → n < 10 ^ 20 → k ≡ length (decimal n) → leb (at + length (decimal n)) (length buf) ≡ true → ◌≡◌ {A = List ℕ × ℕ} (take at buf ++ last_digits k n ++ drop (at + k) buf, at + k) (put (decimal n) (buf, at))
 put_is buf at k n b e t = rw (put_yes (decimal n) buf at t, spelled buf at k n b e, e)
 
-pub returns-else-has_room : goal.returns-else-has_room
-returns-else-has_room c = sym (put_no _ c.args.buf.now c.args.at (room c.args.at _ c.args.n _ _ c.places-k.ensures c.has_room.ensures c.if-has_room.false))
-
-pub put_digits-requires : goal.put_digits-requires
-put_digits-requires c = leb-true _ _ (sym c.has_room.ensures ∙ c.if-has_room.true)
-
-pub overflow_add-result : goal.overflow_add-result
-overflow_add-result c = omega (arith, leb-true (c.args.at + c.places-k.result) _ (sym c.has_room.ensures ∙ c.if-has_room.true))
+pub returns-then-not-has_room : goal.returns-then-not-has_room
+returns-then-not-has_room c = sym (put_no _ c.args.buf.now c.args.at (room c.args.at _ c.args.n _ _ c.places-k.ensures c.has_room.ensures c.if-not-has_room.true))
 
 pub returns : goal.returns
-returns c = rw c.put_digits.ensures (put_is c.args.buf.now c.args.at _ c.args.n (omega arith) c.places-k.ensures (room c.args.at _ c.args.n _ _ c.places-k.ensures c.has_room.ensures c.if-has_room.true))
+returns c = rw c.put_digits.ensures (put_is c.args.buf.now c.args.at _ c.args.n (omega arith) c.places-k.ensures (room c.args.at _ c.args.n _ _ c.places-k.ensures c.has_room.ensures c.if-not-has_room.false))
