@@ -1,3 +1,1 @@
-pub mod SignLaws
-pub mod ChoiceLaws
 pub mod NarrowLaws

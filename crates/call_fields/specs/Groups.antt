@@ -46,8 +46,8 @@ unfoldable pub rect_of : RectNumbers → OptionalRect
 rect_of n =
     cond (is_one n.present)
     (rect.Some (record {
-      x_milli = (signed_of n.x_milli).value;
-      y_milli = (signed_of n.y_milli).value;
+      x_milli = signed_of n.x_milli;
+      y_milli = signed_of n.y_milli;
       width_milli = within 4294967296 n.width_milli;
       height_milli = within 4294967296 n.height_milli;
     }))
@@ -74,7 +74,7 @@ button_numbers (button.Some b) = record { present = 1; button = b }
 -- class mask, scope, priority
 abbrev pub registration_of : RegistrationNumbers → SurfaceShortcutRegistration
 registration_of n =
-    record { class_mask = n.class_mask; scope = scope_of n.scope; priority = (short_of n.priority).value }
+    record { class_mask = n.class_mask; scope = scope_of n.scope; priority = short_of n.priority }
 
 abbrev pub registration_numbers : SurfaceShortcutRegistration → RegistrationNumbers
 registration_numbers r =

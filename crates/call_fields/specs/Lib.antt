@@ -2,3 +2,4 @@ pub mod Narrow
 pub mod PanelChoices
 pub mod EventChoices
 pub mod Groups
+pub mod Back

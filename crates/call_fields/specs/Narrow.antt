@@ -1,9 +1,7 @@
 -- Numbers in the range of a field; one out of range is read as 0.
-use Rattle.std.specs.Prelude.{ℕ, Bool, cond, eqb, ltb}
+use Rattle.std.specs.Prelude.{ℕ, Bool, cond, eqb, ltb, ℤ}
 use Rattle.std.specs.Int.{w16, w32}
 use Rattle.std.proofs.Common.{to_z}
-use Rattle.call_fields.specs.declared.narrow.Signed.{Signed}
-use Rattle.call_fields.specs.declared.narrow.Short.{Short}
 
 -- an unsigned field of fewer bits
 unfoldable pub within : ℕ → ℕ → ℕ
@@ -17,8 +15,8 @@ abbrev pub one_if : Bool → ℕ
 one_if f = cond f 1 0
 
 -- a signed field of 32 or of 16 bits: its two's complement
-unfoldable pub signed_of : ℕ → Signed
-signed_of n = record { value = to_z w32 (within 4294967296 n) }
+unfoldable pub signed_of : ℕ → ℤ
+signed_of n = to_z w32 (within 4294967296 n)
 
-unfoldable pub short_of : ℕ → Short
-short_of n = record { value = to_z w16 (within 65536 n) }
+unfoldable pub short_of : ℕ → ℤ
+short_of n = to_z w16 (within 65536 n)

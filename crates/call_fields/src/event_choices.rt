@@ -1,151 +1,134 @@
 // The enums of an input event, by their numbers: the declared order from 0.
+
+#![tactic(auto, unfolding(crate::specs::EventChoices::device_kind_of, crate::specs::EventChoices::key_phase_of, crate::specs::EventChoices::pointer_phase_of, crate::specs::EventChoices::wheel_unit_of, crate::specs::EventChoices::composition_phase_of, crate::specs::EventChoices::mapping_of))]
+
 ghost use Rattle.std.specs.Prelude.{◌≡◌};
 ghost use Rattle.call_fields.specs.EventChoices.{device_kind_of, device_kind_number, key_phase_of, key_phase_number, pointer_phase_of, pointer_phase_number, wheel_unit_of, wheel_unit_number, composition_phase_of, composition_phase_number, mapping_of, mapping_number};
+ghost use Rattle.call_fields.specs.Back.{device_kind_back, key_phase_back, pointer_phase_back, wheel_unit_back, composition_phase_back, mapping_back};
 
+use crate::numbered::Numbered;
 use input_events::event::{
     CompositionPhase, GamepadMapping, InputDeviceKind, KeyPhase, PointerPhase, WheelUnit,
 };
 
-const DEVICE_KINDS: [InputDeviceKind; 5] = [
-    InputDeviceKind::Mouse,
-    InputDeviceKind::Touch,
-    InputDeviceKind::Pen,
-    InputDeviceKind::Keyboard,
-    InputDeviceKind::Gamepad,
-];
+impl Numbered for InputDeviceKind {
+    ghost value_of = { device_kind_of };
 
-const KEY_PHASES: [KeyPhase; 2] = [KeyPhase::Down, KeyPhase::Up];
+    ghost number_of = { device_kind_number };
 
-const POINTER_PHASES: [PointerPhase; 4] = [
-    PointerPhase::Down,
-    PointerPhase::Move,
-    PointerPhase::Up,
-    PointerPhase::Cancel,
-];
+    ghost back = { λ x h. device_kind_back x };
 
-const WHEEL_UNITS: [WheelUnit; 3] = [WheelUnit::Pixel, WheelUnit::Line, WheelUnit::Page];
-
-const COMPOSITION_PHASES: [CompositionPhase; 4] = [
-    CompositionPhase::Start,
-    CompositionPhase::Update,
-    CompositionPhase::End,
-    CompositionPhase::Cancel,
-];
-
-const MAPPINGS: [GamepadMapping; 2] = [GamepadMapping::Standard, GamepadMapping::Raw];
-
-pub fn device_kind_of(n: u64) -> InputDeviceKind
-    ensures { result ≡ device_kind_of n }
-{
-    if n < 5 {
-        return DEVICE_KINDS[n as usize];
+    fn from_number(n: u64) -> InputDeviceKind {
+        match n {
+            1 => InputDeviceKind::Touch,
+            2 => InputDeviceKind::Pen,
+            3 => InputDeviceKind::Keyboard,
+            4 => InputDeviceKind::Gamepad,
+            _ => InputDeviceKind::Mouse,
+        }
     }
-    InputDeviceKind::Mouse
-}
 
-pub fn device_kind_number(choice: InputDeviceKind) -> u64
-    ensures { result ≡ device_kind_number choice }
-{
-    match choice {
-        InputDeviceKind::Mouse => 0,
-        InputDeviceKind::Touch => 1,
-        InputDeviceKind::Pen => 2,
-        InputDeviceKind::Keyboard => 3,
-        InputDeviceKind::Gamepad => 4,
+    fn number(self) -> u64 {
+        self as u64
     }
 }
 
-pub fn key_phase_of(n: u64) -> KeyPhase
-    ensures { result ≡ key_phase_of n }
-{
-    if n < 2 {
-        return KEY_PHASES[n as usize];
-    }
-    KeyPhase::Down
-}
+impl Numbered for KeyPhase {
+    ghost value_of = { key_phase_of };
 
-pub fn key_phase_number(choice: KeyPhase) -> u64
-    ensures { result ≡ key_phase_number choice }
-{
-    match choice {
-        KeyPhase::Down => 0,
-        KeyPhase::Up => 1,
-    }
-}
+    ghost number_of = { key_phase_number };
 
-pub fn pointer_phase_of(n: u64) -> PointerPhase
-    ensures { result ≡ pointer_phase_of n }
-{
-    if n < 4 {
-        return POINTER_PHASES[n as usize];
-    }
-    PointerPhase::Down
-}
+    ghost back = { λ x h. key_phase_back x };
 
-pub fn pointer_phase_number(choice: PointerPhase) -> u64
-    ensures { result ≡ pointer_phase_number choice }
-{
-    match choice {
-        PointerPhase::Down => 0,
-        PointerPhase::Move => 1,
-        PointerPhase::Up => 2,
-        PointerPhase::Cancel => 3,
+    fn from_number(n: u64) -> KeyPhase {
+        match n {
+            1 => KeyPhase::Up,
+            _ => KeyPhase::Down,
+        }
+    }
+
+    fn number(self) -> u64 {
+        self as u64
     }
 }
 
-pub fn wheel_unit_of(n: u64) -> WheelUnit
-    ensures { result ≡ wheel_unit_of n }
-{
-    if n < 3 {
-        return WHEEL_UNITS[n as usize];
-    }
-    WheelUnit::Pixel
-}
+impl Numbered for PointerPhase {
+    ghost value_of = { pointer_phase_of };
 
-pub fn wheel_unit_number(choice: WheelUnit) -> u64
-    ensures { result ≡ wheel_unit_number choice }
-{
-    match choice {
-        WheelUnit::Pixel => 0,
-        WheelUnit::Line => 1,
-        WheelUnit::Page => 2,
-    }
-}
+    ghost number_of = { pointer_phase_number };
 
-pub fn composition_phase_of(n: u64) -> CompositionPhase
-    ensures { result ≡ composition_phase_of n }
-{
-    if n < 4 {
-        return COMPOSITION_PHASES[n as usize];
-    }
-    CompositionPhase::Start
-}
+    ghost back = { λ x h. pointer_phase_back x };
 
-pub fn composition_phase_number(choice: CompositionPhase) -> u64
-    ensures { result ≡ composition_phase_number choice }
-{
-    match choice {
-        CompositionPhase::Start => 0,
-        CompositionPhase::Update => 1,
-        CompositionPhase::End => 2,
-        CompositionPhase::Cancel => 3,
+    fn from_number(n: u64) -> PointerPhase {
+        match n {
+            1 => PointerPhase::Move,
+            2 => PointerPhase::Up,
+            3 => PointerPhase::Cancel,
+            _ => PointerPhase::Down,
+        }
+    }
+
+    fn number(self) -> u64 {
+        self as u64
     }
 }
 
-pub fn mapping_of(n: u64) -> GamepadMapping
-    ensures { result ≡ mapping_of n }
-{
-    if n < 2 {
-        return MAPPINGS[n as usize];
+impl Numbered for WheelUnit {
+    ghost value_of = { wheel_unit_of };
+
+    ghost number_of = { wheel_unit_number };
+
+    ghost back = { λ x h. wheel_unit_back x };
+
+    fn from_number(n: u64) -> WheelUnit {
+        match n {
+            1 => WheelUnit::Line,
+            2 => WheelUnit::Page,
+            _ => WheelUnit::Pixel,
+        }
     }
-    GamepadMapping::Standard
+
+    fn number(self) -> u64 {
+        self as u64
+    }
 }
 
-pub fn mapping_number(choice: GamepadMapping) -> u64
-    ensures { result ≡ mapping_number choice }
-{
-    match choice {
-        GamepadMapping::Standard => 0,
-        GamepadMapping::Raw => 1,
+impl Numbered for CompositionPhase {
+    ghost value_of = { composition_phase_of };
+
+    ghost number_of = { composition_phase_number };
+
+    ghost back = { λ x h. composition_phase_back x };
+
+    fn from_number(n: u64) -> CompositionPhase {
+        match n {
+            1 => CompositionPhase::Update,
+            2 => CompositionPhase::End,
+            3 => CompositionPhase::Cancel,
+            _ => CompositionPhase::Start,
+        }
+    }
+
+    fn number(self) -> u64 {
+        self as u64
+    }
+}
+
+impl Numbered for GamepadMapping {
+    ghost value_of = { mapping_of };
+
+    ghost number_of = { mapping_number };
+
+    ghost back = { λ x h. mapping_back x };
+
+    fn from_number(n: u64) -> GamepadMapping {
+        match n {
+            1 => GamepadMapping::Raw,
+            _ => GamepadMapping::Standard,
+        }
+    }
+
+    fn number(self) -> u64 {
+        self as u64
     }
 }

@@ -1,15 +1,18 @@
-// Handles, pointers, optional fields and registrations, by their numbers. Behind a flag of 0 stand zeros.
+// Handles, pointers, optional fields and registrations, by their numbers. An optional field is a flag and its fields,
+// as a host hands them in; behind a flag of 0 stand zeros.
+
+#![tactic(auto, unfolding(crate::specs::Groups::optional_of, crate::specs::Groups::rect_of, crate::specs::Groups::maybe_of))]
+
 ghost use Rattle.std.specs.Prelude.{◌≡◌};
 ghost use Rattle.call_fields.specs.Groups.{handle_of, optional_of, optional_numbers, pointer_of, device_of, rect_of, rect_numbers, button_of, button_numbers, registration_of, registration_numbers, maybe_of, maybe_numbers};
 
-use crate::narrow::{Short, Signed, bits_of, low_byte, low_half, short_bits, short_of, signed_of};
-use crate::panel_choices::{scope_number, scope_of};
+use crate::numbered::Numbered;
 use composition_shortcuts::register::OptionalRegistration;
 use geometry::rect::{OptionalRect, SurfaceRect};
 use handles::{GenerationalHandle, OptionalHandle};
 use input_events::event::OptionalButton;
 use maps::keys::{CompositionPointerId, InputDeviceId};
-use records::shortcut::SurfaceShortcutRegistration;
+use records::shortcut::{ShortcutScope, SurfaceShortcutRegistration};
 
 #[derive(Clone, Copy)]
 pub struct OptionalNumbers {
@@ -51,8 +54,8 @@ pub fn handle_of(index: u64, generation: u64) -> GenerationalHandle
     ensures { result ≡ handle_of index generation }
 {
     GenerationalHandle {
-        index: low_half(index),
-        generation: low_half(generation),
+        index: u32::from_number(index),
+        generation: u32::from_number(generation),
     }
 }
 
@@ -76,8 +79,8 @@ pub fn optional_numbers(optional: OptionalHandle) -> OptionalNumbers
         },
         OptionalHandle::Some(h) => OptionalNumbers {
             present: 1,
-            index: h.index as u64,
-            generation: h.generation as u64,
+            index: h.index.number(),
+            generation: h.generation.number(),
         },
     }
 }
@@ -87,8 +90,8 @@ pub fn pointer_of(device: u64, device_generation: u64, contact: u64) -> Composit
 {
     CompositionPointerId {
         device,
-        device_generation: low_half(device_generation),
-        contact: low_half(contact),
+        device_generation: u32::from_number(device_generation),
+        contact: u32::from_number(contact),
     }
 }
 
@@ -97,7 +100,7 @@ pub fn device_of(value: u64, generation: u64) -> InputDeviceId
 {
     InputDeviceId {
         value,
-        generation: low_half(generation),
+        generation: u32::from_number(generation),
     }
 }
 
@@ -105,13 +108,11 @@ pub fn rect_of(numbers: RectNumbers) -> OptionalRect
     ensures { result ≡ rect_of numbers }
 {
     if numbers.present == 1 {
-        let x = signed_of(numbers.x_milli);
-        let y = signed_of(numbers.y_milli);
         let rect = SurfaceRect {
-            x_milli: x.value,
-            y_milli: y.value,
-            width_milli: low_half(numbers.width_milli),
-            height_milli: low_half(numbers.height_milli),
+            x_milli: i32::from_number(numbers.x_milli),
+            y_milli: i32::from_number(numbers.y_milli),
+            width_milli: u32::from_number(numbers.width_milli),
+            height_milli: u32::from_number(numbers.height_milli),
         };
         return OptionalRect::Some(rect);
     }
@@ -131,14 +132,10 @@ pub fn rect_numbers(optional: OptionalRect) -> RectNumbers
         },
         OptionalRect::Some(rect) => RectNumbers {
             present: 1,
-            x_milli: bits_of(Signed {
-                value: rect.x_milli,
-            }),
-            y_milli: bits_of(Signed {
-                value: rect.y_milli,
-            }),
-            width_milli: rect.width_milli as u64,
-            height_milli: rect.height_milli as u64,
+            x_milli: rect.x_milli.number(),
+            y_milli: rect.y_milli.number(),
+            width_milli: rect.width_milli.number(),
+            height_milli: rect.height_milli.number(),
         },
     }
 }
@@ -147,7 +144,7 @@ pub fn button_of(numbers: ButtonNumbers) -> OptionalButton
     ensures { result ≡ button_of numbers }
 {
     if numbers.present == 1 {
-        return OptionalButton::Some(low_byte(numbers.button));
+        return OptionalButton::Some(u8::from_number(numbers.button));
     }
     OptionalButton::None
 }
@@ -162,7 +159,7 @@ pub fn button_numbers(optional: OptionalButton) -> ButtonNumbers
         },
         OptionalButton::Some(button) => ButtonNumbers {
             present: 1,
-            button: button as u64,
+            button: button.number(),
         },
     }
 }
@@ -170,25 +167,20 @@ pub fn button_numbers(optional: OptionalButton) -> ButtonNumbers
 pub fn registration_of(numbers: RegistrationNumbers) -> SurfaceShortcutRegistration
     ensures { result ≡ registration_of numbers }
 {
-    let scope = scope_of(numbers.scope);
-    let priority = short_of(numbers.priority);
     SurfaceShortcutRegistration {
         class_mask: numbers.class_mask,
-        scope,
-        priority: priority.value,
+        scope: ShortcutScope::from_number(numbers.scope),
+        priority: i16::from_number(numbers.priority),
     }
 }
 
 pub fn registration_numbers(registration: SurfaceShortcutRegistration) -> RegistrationNumbers
     ensures { result ≡ registration_numbers registration }
 {
-    let scope = registration.scope;
     RegistrationNumbers {
         class_mask: registration.class_mask,
-        scope: scope_number(scope),
-        priority: short_bits(Short {
-            value: registration.priority,
-        }),
+        scope: registration.scope.number(),
+        priority: registration.priority.number(),
     }
 }
 

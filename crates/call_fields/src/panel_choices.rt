@@ -1,109 +1,93 @@
 // The enums of panels, views and shortcuts, by their numbers: the declared order from 0.
+
+#![tactic(auto, unfolding(crate::specs::PanelChoices::surface_kind_of, crate::specs::PanelChoices::policy_of, crate::specs::PanelChoices::visibility_of, crate::specs::PanelChoices::scope_of))]
+
 ghost use Rattle.std.specs.Prelude.{◌≡◌};
 ghost use Rattle.call_fields.specs.PanelChoices.{surface_kind_of, surface_kind_number, policy_of, policy_number, visibility_of, visibility_number, scope_of, scope_number};
+ghost use Rattle.call_fields.specs.Back.{surface_kind_back, policy_back, visibility_back, scope_back};
 
+use crate::numbered::Numbered;
 use geometry::metrics::ViewVisibility;
 use records::shortcut::ShortcutScope;
 use records::surface::{SurfaceInputPolicy, SurfaceKind};
 
-const SURFACE_KINDS: [SurfaceKind; 3] = [
-    SurfaceKind::Game,
-    SurfaceKind::Ui,
-    SurfaceKind::Diagnostics,
-];
+impl Numbered for SurfaceKind {
+    ghost value_of = { surface_kind_of };
 
-const POLICIES: [SurfaceInputPolicy; 4] = [
-    SurfaceInputPolicy::Observe,
-    SurfaceInputPolicy::Passthrough,
-    SurfaceInputPolicy::Interactive,
-    SurfaceInputPolicy::Exclusive,
-];
+    ghost number_of = { surface_kind_number };
 
-const VISIBILITIES: [ViewVisibility; 3] = [
-    ViewVisibility::Visible,
-    ViewVisibility::Hidden,
-    ViewVisibility::Suspended,
-];
+    ghost back = { λ x h. surface_kind_back x };
 
-const SCOPES: [ShortcutScope; 3] = [
-    ShortcutScope::View,
-    ShortcutScope::Window,
-    ShortcutScope::Session,
-];
-
-pub fn surface_kind_of(n: u64) -> SurfaceKind
-    ensures { result ≡ surface_kind_of n }
-{
-    if n < 3 {
-        return SURFACE_KINDS[n as usize];
+    fn from_number(n: u64) -> SurfaceKind {
+        match n {
+            1 => SurfaceKind::Ui,
+            2 => SurfaceKind::Diagnostics,
+            _ => SurfaceKind::Game,
+        }
     }
-    SurfaceKind::Game
-}
 
-pub fn surface_kind_number(choice: SurfaceKind) -> u64
-    ensures { result ≡ surface_kind_number choice }
-{
-    match choice {
-        SurfaceKind::Game => 0,
-        SurfaceKind::Ui => 1,
-        SurfaceKind::Diagnostics => 2,
+    fn number(self) -> u64 {
+        self as u64
     }
 }
 
-pub fn policy_of(n: u64) -> SurfaceInputPolicy
-    ensures { result ≡ policy_of n }
-{
-    if n < 4 {
-        return POLICIES[n as usize];
-    }
-    SurfaceInputPolicy::Observe
-}
+impl Numbered for SurfaceInputPolicy {
+    ghost value_of = { policy_of };
 
-pub fn policy_number(choice: SurfaceInputPolicy) -> u64
-    ensures { result ≡ policy_number choice }
-{
-    match choice {
-        SurfaceInputPolicy::Observe => 0,
-        SurfaceInputPolicy::Passthrough => 1,
-        SurfaceInputPolicy::Interactive => 2,
-        SurfaceInputPolicy::Exclusive => 3,
-    }
-}
+    ghost number_of = { policy_number };
 
-pub fn visibility_of(n: u64) -> ViewVisibility
-    ensures { result ≡ visibility_of n }
-{
-    if n < 3 {
-        return VISIBILITIES[n as usize];
-    }
-    ViewVisibility::Visible
-}
+    ghost back = { λ x h. policy_back x };
 
-pub fn visibility_number(choice: ViewVisibility) -> u64
-    ensures { result ≡ visibility_number choice }
-{
-    match choice {
-        ViewVisibility::Visible => 0,
-        ViewVisibility::Hidden => 1,
-        ViewVisibility::Suspended => 2,
+    fn from_number(n: u64) -> SurfaceInputPolicy {
+        match n {
+            1 => SurfaceInputPolicy::Passthrough,
+            2 => SurfaceInputPolicy::Interactive,
+            3 => SurfaceInputPolicy::Exclusive,
+            _ => SurfaceInputPolicy::Observe,
+        }
+    }
+
+    fn number(self) -> u64 {
+        self as u64
     }
 }
 
-pub fn scope_of(n: u64) -> ShortcutScope
-    ensures { result ≡ scope_of n }
-{
-    if n < 3 {
-        return SCOPES[n as usize];
+impl Numbered for ViewVisibility {
+    ghost value_of = { visibility_of };
+
+    ghost number_of = { visibility_number };
+
+    ghost back = { λ x h. visibility_back x };
+
+    fn from_number(n: u64) -> ViewVisibility {
+        match n {
+            1 => ViewVisibility::Hidden,
+            2 => ViewVisibility::Suspended,
+            _ => ViewVisibility::Visible,
+        }
     }
-    ShortcutScope::View
+
+    fn number(self) -> u64 {
+        self as u64
+    }
 }
 
-pub fn scope_number(choice: ShortcutScope) -> u64
-    ensures { result ≡ scope_number choice }
-{
-    match choice {
-        ShortcutScope::View => 0,
-        ShortcutScope::Window => 1,
-        ShortcutScope::Session => 2,
+impl Numbered for ShortcutScope {
+    ghost value_of = { scope_of };
+
+    ghost number_of = { scope_number };
+
+    ghost back = { λ x h. scope_back x };
+
+    fn from_number(n: u64) -> ShortcutScope {
+        match n {
+            1 => ShortcutScope::Window,
+            2 => ShortcutScope::Session,
+            _ => ShortcutScope::View,
+        }
+    }
+
+    fn number(self) -> u64 {
+        self as u64
     }
 }

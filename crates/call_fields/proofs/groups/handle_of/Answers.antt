@@ -1,5 +1,0 @@
--- `handle_of` meets its contract, by those of what it calls.
-use Rattle.call_fields.proofs.groups.handle_of.Goals as goal
-
-pub returns : goal.returns
-returns c = rw (c.low_half-2.ensures, c.low_half.ensures)

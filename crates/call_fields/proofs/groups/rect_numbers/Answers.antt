@@ -1,9 +1,0 @@
--- `rect_numbers` meets its contract, by those of what it calls.
-use borrow.Author.Rules.{rules}
-use Rattle.call_fields.proofs.groups.rect_numbers.Goals as goal
-
-pub returns-in-None : goal.returns-in-None
-returns-in-None c = rw c.in-None.is
-
-pub returns-in-Some : goal.returns-in-Some
-returns-in-Some c = rw (c.bits_of-in-Some.ensures, c.bits_of.ensures, c.in-Some.known_told-1-own.given.1, c.in-Some.is) (search rules)
