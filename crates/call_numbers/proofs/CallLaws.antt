@@ -13,8 +13,8 @@ use Rattle.calls.specs.declared.call.ReadCall.{ReadCall}
 use Rattle.calls.specs.declared.call.ReadCall.TheVariants as read
 use Rattle.calls.specs.declared.call.ShortcutCall.{ShortcutCall}
 use Rattle.calls.specs.declared.call.ShortcutCall.TheVariants as shortcut
-use Rattle.call_fields.proofs.ChoiceLaws.{policy_back, surface_kind_back}
-use Rattle.call_fields.proofs.NarrowLaws.{within_back, flag_back, signed_back}
+use Rattle.call_fields.specs.Back.{policy_back, surface_kind_back}
+use Rattle.call_fields.specs.Back.{within_back, flag_back, signed_back}
 use Rattle.call_numbers.specs.Calls.{call_numbers, call_at}
 use Rattle.call_numbers.specs.Claims.{CallNumberClaims}
 use Rattle.call_numbers.specs.Fits.{FitsDescriptor, FitsPanel, FitsInput, FitsShortcut, FitsRead, FitsCall}

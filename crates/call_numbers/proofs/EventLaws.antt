@@ -10,8 +10,8 @@ use Rattle.input_events.specs.declared.event.PlatformInputPayload.TheVariants as
 use Rattle.calls.specs.declared.call.Call.TheVariants as call
 use Rattle.calls.specs.declared.call.RouterCall.{RouterCall}
 use Rattle.calls.specs.declared.call.RouterCall.TheVariants as router
-use Rattle.call_fields.proofs.ChoiceLaws.{device_kind_back, key_phase_back, pointer_phase_back, wheel_unit_back, composition_phase_back, mapping_back}
-use Rattle.call_fields.proofs.NarrowLaws.{within_back, flag_back, signed_back, short_back}
+use Rattle.call_fields.specs.Back.{device_kind_back, key_phase_back, pointer_phase_back, wheel_unit_back, composition_phase_back, mapping_back}
+use Rattle.call_fields.specs.Back.{within_back, flag_back, signed_back, short_back}
 use Rattle.call_numbers.specs.Arbitrations.{event_numbers, event_at, arbitrate_numbers}
 use Rattle.call_numbers.specs.Calls.{call_at}
 use Rattle.call_numbers.specs.Events.{header_at, modifiers_at, router_numbers, router_at}

@@ -15,8 +15,8 @@ use Rattle.composition_shortcuts.specs.declared.register.OptionalRegistration.Th
 use Rattle.input_events.specs.declared.event.OptionalButton.{OptionalButton}
 use Rattle.input_events.specs.declared.event.OptionalButton.TheVariants as button
 use Rattle.call_fields.specs.Groups.{handle_of, optional_of, optional_numbers, pointer_of, rect_of, rect_numbers, button_of, button_numbers, maybe_of, maybe_numbers}
-use Rattle.call_fields.proofs.ChoiceLaws.{scope_back, visibility_back}
-use Rattle.call_fields.proofs.NarrowLaws.{within_back, flag_back, signed_back, short_back}
+use Rattle.call_fields.specs.Back.{scope_back, visibility_back}
+use Rattle.call_fields.specs.Back.{within_back, flag_back, signed_back, short_back}
 use Rattle.call_numbers.specs.Fits.{FitsHandle, FitsOptional, FitsPointer, FitsRect, FitsTransform, FitsPoint, FitsGeometry, FitsMetrics, FitsRegistration, FitsButton}
 use Rattle.call_numbers.specs.Geometries.{transform_numbers, transform_at, point_numbers, point_at, geometry_numbers, geometry_at, metrics_numbers, metrics_at}
 

@@ -36,19 +36,19 @@ transform_numbers t =
 
 unfoldable pub transform_at : List ℕ → ℕ → SurfaceTransform
 transform_at l i = record {
-  m11_q16 = (signed_of (get_or l i 0)).value;
-  m12_q16 = (signed_of (get_or l (i + 1) 0)).value;
-  m21_q16 = (signed_of (get_or l (i + 2) 0)).value;
-  m22_q16 = (signed_of (get_or l (i + 3) 0)).value;
-  translate_x_milli = (signed_of (get_or l (i + 4) 0)).value;
-  translate_y_milli = (signed_of (get_or l (i + 5) 0)).value;
+  m11_q16 = signed_of (get_or l i 0);
+  m12_q16 = signed_of (get_or l (i + 1) 0);
+  m21_q16 = signed_of (get_or l (i + 2) 0);
+  m22_q16 = signed_of (get_or l (i + 3) 0);
+  translate_x_milli = signed_of (get_or l (i + 4) 0);
+  translate_y_milli = signed_of (get_or l (i + 5) 0);
 }
 
 abbrev pub point_numbers : Point → List ℕ
 point_numbers p = of_z w32 p.x_milli ∷ of_z w32 p.y_milli ∷ []
 
 abbrev pub point_at : List ℕ → ℕ → Point
-point_at l i = record { x_milli = (signed_of (get_or l i 0)).value; y_milli = (signed_of (get_or l (i + 1) 0)).value }
+point_at l i = record { x_milli = signed_of (get_or l i 0); y_milli = signed_of (get_or l (i + 1) 0) }
 
 -- bounds, clip, transform, opacity, hit testing
 abbrev pub geometry_numbers : SurfaceGeometry → List ℕ
@@ -84,8 +84,8 @@ metrics_numbers u =
 
 unfoldable pub metrics_at : List ℕ → ℕ → ViewMetricsUpdate
 metrics_at l i = record {
-  origin_x_milli = (signed_of (get_or l i 0)).value;
-  origin_y_milli = (signed_of (get_or l (i + 1) 0)).value;
+  origin_x_milli = signed_of (get_or l i 0);
+  origin_y_milli = signed_of (get_or l (i + 1) 0);
   width_milli = within 4294967296 (get_or l (i + 2) 0);
   height_milli = within 4294967296 (get_or l (i + 3) 0);
   framebuffer_width = within 4294967296 (get_or l (i + 4) 0);

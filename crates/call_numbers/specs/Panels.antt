@@ -20,7 +20,7 @@ unfoldable pub descriptor_at : List ℕ → SurfaceDescriptor
 descriptor_at l = record {
   view = handle_at l 1;
   kind = surface_kind_of (get_or l 3 0);
-  z_order = (signed_of (get_or l 4 0)).value;
+  z_order = signed_of (get_or l 4 0);
   input = policy_of (get_or l 5 0);
   accepts_text = is_one (get_or l 6 0);
   geometry = geometry_at l 7;

@@ -36,13 +36,13 @@ unfoldable pub pointer_at : List ℕ → PointerInput
 pointer_at l = record {
   contact = within 4294967296 (get_or l 18 0);
   phase = pointer_phase_of (get_or l 19 0);
-  x_milli = (signed_of (get_or l 20 0)).value;
-  y_milli = (signed_of (get_or l 21 0)).value;
-  delta_x_milli = (signed_of (get_or l 22 0)).value;
-  delta_y_milli = (signed_of (get_or l 23 0)).value;
+  x_milli = signed_of (get_or l 20 0);
+  y_milli = signed_of (get_or l 21 0);
+  delta_x_milli = signed_of (get_or l 22 0);
+  delta_y_milli = signed_of (get_or l 23 0);
   pressure_q15 = within 65536 (get_or l 24 0);
-  tilt_x_degrees = (short_of (get_or l 25 0)).value;
-  tilt_y_degrees = (short_of (get_or l 26 0)).value;
+  tilt_x_degrees = short_of (get_or l 25 0);
+  tilt_y_degrees = short_of (get_or l 26 0);
   buttons = within 4294967296 (get_or l 27 0);
   changed_button = button_of (record { present = get_or l 28 0; button = get_or l 29 0 });
 }
@@ -50,10 +50,10 @@ pointer_at l = record {
 unfoldable pub wheel_at : List ℕ → WheelInput
 wheel_at l = record {
   contact = within 4294967296 (get_or l 18 0);
-  x_milli = (signed_of (get_or l 19 0)).value;
-  y_milli = (signed_of (get_or l 20 0)).value;
-  delta_x_milli = (signed_of (get_or l 21 0)).value;
-  delta_y_milli = (signed_of (get_or l 22 0)).value;
+  x_milli = signed_of (get_or l 19 0);
+  y_milli = signed_of (get_or l 20 0);
+  delta_x_milli = signed_of (get_or l 21 0);
+  delta_y_milli = signed_of (get_or l 22 0);
   unit = wheel_unit_of (get_or l 23 0);
 }
 

@@ -1,4 +1,7 @@
 // Any call from its first 32 numbers: the number at 0 tells the group.
+
+#![tactic(auto, unfolding(crate::specs::Calls::call_at))]
+
 ghost use Rattle.std.specs.Prelude.{◌≡◌};
 ghost use Rattle.call_numbers.specs.Calls.{call_at};
 ghost use Rattle.call_numbers.specs.Claims.{CallNumberClaims};
@@ -16,32 +19,17 @@ use calls::call::{Call, CloseCall};
 pub fn call_at(words: [u64; 32]) -> Call
     ensures { result ≡ call_at words }
 {
-    let number = words[0];
-    if number < 8 {
-        return Call::Panel(panel_at(words));
+    match words[0] {
+        0..8 => Call::Panel(panel_at(words)),
+        8..16 => Call::Input(input_at(words)),
+        16 => Call::ReleaseDevice(device_at(words)),
+        17..20 => Call::Shortcut(shortcut_at(words)),
+        20 => Call::Arbitrate(arbitrate_at(words)),
+        21 => Call::Close(CloseCall::CloseSurface(handle_at(words, 1))),
+        22 => Call::Close(CloseCall::Shutdown),
+        23..26 => Call::Router(router_at(words)),
+        _ => Call::Read(read_at(words)),
     }
-    if number < 16 {
-        return Call::Input(input_at(words));
-    }
-    if number < 17 {
-        return Call::ReleaseDevice(device_at(words));
-    }
-    if number < 20 {
-        return Call::Shortcut(shortcut_at(words));
-    }
-    if number < 21 {
-        return Call::Arbitrate(arbitrate_at(words));
-    }
-    if number < 22 {
-        return Call::Close(CloseCall::CloseSurface(handle_at(words, 1)));
-    }
-    if number < 23 {
-        return Call::Close(CloseCall::Shutdown);
-    }
-    if number < 26 {
-        return Call::Router(router_at(words));
-    }
-    Call::Read(read_at(words))
 }
 
 // A call is read back from its numbers, and no two calls have the same.

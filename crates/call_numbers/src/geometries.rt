@@ -1,12 +1,14 @@
 // Geometry, transforms, points and view metrics, by their numbers.
+
+#![tactic(auto, unfolding(crate::specs::Geometries::transform_at, crate::specs::Geometries::geometry_at, crate::specs::Geometries::metrics_at))]
+
 ghost use Rattle.std.specs.Prelude.{◌≡◌};
 ghost use Rattle.call_numbers.specs.Geometries.{transform_at, point_at, rect_at, insets_at, geometry_at, metrics_at};
 
 use crate::words::word;
 use call_fields::groups::{RectNumbers, rect_of};
-use call_fields::narrow::{is_one, low_half, low_quarter, signed_of};
-use call_fields::panel_choices::visibility_of;
-use geometry::metrics::{ViewInsets, ViewMetricsUpdate};
+use call_fields::numbered::Numbered;
+use geometry::metrics::{ViewInsets, ViewMetricsUpdate, ViewVisibility};
 use geometry::rect::OptionalRect;
 use geometry::surface::SurfaceGeometry;
 use geometry::transform::{Point, SurfaceTransform};
@@ -15,19 +17,13 @@ pub fn transform_at(words: [u64; 32], at: u16) -> SurfaceTransform
     ensures { result ≡ transform_at words at }
 {
     let i = at as usize;
-    let a = signed_of(word(words, i));
-    let b = signed_of(word(words, i + 1));
-    let c = signed_of(word(words, i + 2));
-    let d = signed_of(word(words, i + 3));
-    let e = signed_of(word(words, i + 4));
-    let f = signed_of(word(words, i + 5));
     SurfaceTransform {
-        m11_q16: a.value,
-        m12_q16: b.value,
-        m21_q16: c.value,
-        m22_q16: d.value,
-        translate_x_milli: e.value,
-        translate_y_milli: f.value,
+        m11_q16: i32::from_number(word(words, i)),
+        m12_q16: i32::from_number(word(words, i + 1)),
+        m21_q16: i32::from_number(word(words, i + 2)),
+        m22_q16: i32::from_number(word(words, i + 3)),
+        translate_x_milli: i32::from_number(word(words, i + 4)),
+        translate_y_milli: i32::from_number(word(words, i + 5)),
     }
 }
 
@@ -35,11 +31,9 @@ pub fn point_at(words: [u64; 32], at: u8) -> Point
     ensures { result ≡ point_at words at }
 {
     let i = at as usize;
-    let x = signed_of(word(words, i));
-    let y = signed_of(word(words, i + 1));
     Point {
-        x_milli: x.value,
-        y_milli: y.value,
+        x_milli: i32::from_number(word(words, i)),
+        y_milli: i32::from_number(word(words, i + 1)),
     }
 }
 
@@ -47,14 +41,13 @@ fn rect_at(words: [u64; 32], at: u16) -> OptionalRect
     ensures { result ≡ rect_at words at }
 {
     let i = at as usize;
-    let numbers = RectNumbers {
+    rect_of(RectNumbers {
         present: word(words, i),
         x_milli: word(words, i + 1),
         y_milli: word(words, i + 2),
         width_milli: word(words, i + 3),
         height_milli: word(words, i + 4),
-    };
-    rect_of(numbers)
+    })
 }
 
 // Bounds, clip, transform, opacity, hit testing.
@@ -62,17 +55,12 @@ pub fn geometry_at(words: [u64; 32], at: u8) -> SurfaceGeometry
     ensures { result ≡ geometry_at words at }
 {
     let i = at as usize;
-    let bounds = rect_at(words, at as u16);
-    let clip = rect_at(words, at as u16 + 5);
-    let transform = transform_at(words, at as u16 + 10);
-    let opacity_q16 = low_quarter(word(words, i + 16));
-    let hit_test_enabled = is_one(word(words, i + 17));
     SurfaceGeometry {
-        bounds,
-        clip,
-        transform,
-        opacity_q16,
-        hit_test_enabled,
+        bounds: rect_at(words, at as u16),
+        clip: rect_at(words, at as u16 + 5),
+        transform: transform_at(words, at as u16 + 10),
+        opacity_q16: u16::from_number(word(words, i + 16)),
+        hit_test_enabled: bool::from_number(word(words, i + 17)),
     }
 }
 
@@ -81,10 +69,10 @@ fn insets_at(words: [u64; 32], at: u16) -> ViewInsets
 {
     let i = at as usize;
     ViewInsets {
-        top_milli: low_half(word(words, i)),
-        right_milli: low_half(word(words, i + 1)),
-        bottom_milli: low_half(word(words, i + 2)),
-        left_milli: low_half(word(words, i + 3)),
+        top_milli: u32::from_number(word(words, i)),
+        right_milli: u32::from_number(word(words, i + 1)),
+        bottom_milli: u32::from_number(word(words, i + 2)),
+        left_milli: u32::from_number(word(words, i + 3)),
     }
 }
 
@@ -93,19 +81,15 @@ pub fn metrics_at(words: [u64; 32], at: u8) -> ViewMetricsUpdate
     ensures { result ≡ metrics_at words at }
 {
     let i = at as usize;
-    let x = signed_of(word(words, i));
-    let y = signed_of(word(words, i + 1));
-    let safe_area = insets_at(words, at as u16 + 7);
-    let visibility = visibility_of(word(words, i + 11));
     ViewMetricsUpdate {
-        origin_x_milli: x.value,
-        origin_y_milli: y.value,
-        width_milli: low_half(word(words, i + 2)),
-        height_milli: low_half(word(words, i + 3)),
-        framebuffer_width: low_half(word(words, i + 4)),
-        framebuffer_height: low_half(word(words, i + 5)),
-        scale_q16: low_half(word(words, i + 6)),
-        safe_area,
-        visibility,
+        origin_x_milli: i32::from_number(word(words, i)),
+        origin_y_milli: i32::from_number(word(words, i + 1)),
+        width_milli: u32::from_number(word(words, i + 2)),
+        height_milli: u32::from_number(word(words, i + 3)),
+        framebuffer_width: u32::from_number(word(words, i + 4)),
+        framebuffer_height: u32::from_number(word(words, i + 5)),
+        scale_q16: u32::from_number(word(words, i + 6)),
+        safe_area: insets_at(words, at as u16 + 7),
+        visibility: ViewVisibility::from_number(word(words, i + 11)),
     }
 }

@@ -1,31 +1,27 @@
 // The calls on windows, views and panels: numbers 0 to 7.
+
+#![tactic(auto, unfolding(crate::specs::Panels::descriptor_at, crate::specs::Panels::panel_at))]
+
 ghost use Rattle.std.specs.Prelude.{◌≡◌};
 ghost use Rattle.call_numbers.specs.Panels.{descriptor_at, panel_at};
 
 use crate::geometries::{geometry_at, metrics_at};
 use crate::words::handle_at;
-use call_fields::narrow::{is_one, signed_of};
-use call_fields::panel_choices::{policy_of, surface_kind_of};
+use call_fields::numbered::Numbered;
 use calls::arguments::{GeometryArguments, MetricsArguments, PolicyArguments};
 use calls::call::PanelCall;
-use records::surface::SurfaceDescriptor;
+use records::surface::{SurfaceDescriptor, SurfaceInputPolicy, SurfaceKind};
 
 fn descriptor_at(words: [u64; 32]) -> SurfaceDescriptor
     ensures { result ≡ descriptor_at words }
 {
-    let view = handle_at(words, 1);
-    let kind = surface_kind_of(words[3]);
-    let z = signed_of(words[4]);
-    let input = policy_of(words[5]);
-    let accepts_text = is_one(words[6]);
-    let geometry = geometry_at(words, 7);
     SurfaceDescriptor {
-        view,
-        kind,
-        z_order: z.value,
-        input,
-        accepts_text,
-        geometry,
+        view: handle_at(words, 1),
+        kind: SurfaceKind::from_number(words[3]),
+        z_order: i32::from_number(words[4]),
+        input: SurfaceInputPolicy::from_number(words[5]),
+        accepts_text: bool::from_number(words[6]),
+        geometry: geometry_at(words, 7),
     }
 }
 
@@ -33,43 +29,27 @@ fn descriptor_at(words: [u64; 32]) -> SurfaceDescriptor
 pub fn panel_at(words: [u64; 32]) -> PanelCall
     ensures { result ≡ panel_at words }
 {
-    let number = words[0];
     let handle = handle_at(words, 1);
-    if number == 0 {
-        return PanelCall::CreateWindow;
-    }
-    if number == 1 {
-        return PanelCall::CloseWindow(handle);
-    }
-    if number == 2 {
-        return PanelCall::CreateView(handle);
-    }
-    if number == 3 {
-        let update = metrics_at(words, 3);
-        return PanelCall::UpdateViewMetrics(MetricsArguments {
+    match words[0] {
+        0 => PanelCall::CreateWindow,
+        1 => PanelCall::CloseWindow(handle),
+        2 => PanelCall::CreateView(handle),
+        3 => PanelCall::UpdateViewMetrics(MetricsArguments {
             view: handle,
-            update,
+            update: metrics_at(words, 3),
             revision: words[15],
-        });
-    }
-    if number == 4 {
-        return PanelCall::CloseView(handle);
-    }
-    if number == 5 {
-        return PanelCall::AttachSurface(descriptor_at(words));
-    }
-    if number == 6 {
-        let geometry = geometry_at(words, 3);
-        return PanelCall::UpdateSurfaceGeometry(GeometryArguments {
+        }),
+        4 => PanelCall::CloseView(handle),
+        5 => PanelCall::AttachSurface(descriptor_at(words)),
+        6 => PanelCall::UpdateSurfaceGeometry(GeometryArguments {
             surface: handle,
-            geometry,
+            geometry: geometry_at(words, 3),
             revision: words[21],
-        });
+        }),
+        _ => PanelCall::UpdateSurfaceInputPolicy(PolicyArguments {
+            surface: handle,
+            input: SurfaceInputPolicy::from_number(words[3]),
+            revision: words[4],
+        }),
     }
-    let input = policy_of(words[3]);
-    PanelCall::UpdateSurfaceInputPolicy(PolicyArguments {
-        surface: handle,
-        input,
-        revision: words[4],
-    })
 }

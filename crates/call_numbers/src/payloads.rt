@@ -1,94 +1,79 @@
 // The payloads of a routed event: the kind at 17, and the kind's fields from 18 on.
+
+#![tactic(auto, unfolding(crate::specs::Payloads::pointer_at, crate::specs::Payloads::wheel_at, crate::specs::Payloads::key_at, crate::specs::Payloads::composition_at, crate::specs::Payloads::gamepad_at, crate::specs::Payloads::payload_at))]
+
 ghost use Rattle.std.specs.Prelude.{◌≡◌};
 ghost use Rattle.call_numbers.specs.Payloads.{pointer_at, wheel_at, key_at, composition_at, gamepad_at, payload_at};
 
-use call_fields::event_choices::{
-    composition_phase_of, key_phase_of, mapping_of, pointer_phase_of, wheel_unit_of,
-};
 use call_fields::groups::{ButtonNumbers, button_of};
-use call_fields::narrow::{is_one, low_half, low_quarter, short_of, signed_of};
+use call_fields::numbered::Numbered;
 use input_events::event::{
-    CompositionInput, GamepadInput, KeyInput, PlatformInputPayload, PointerInput, ShortcutInput,
-    TextInput, WheelInput,
+    CompositionInput, CompositionPhase, GamepadInput, GamepadMapping, KeyInput, KeyPhase,
+    PlatformInputPayload, PointerInput, PointerPhase, ShortcutInput, TextInput, WheelInput,
+    WheelUnit,
 };
 
 fn pointer_at(words: [u64; 32]) -> PointerInput
     ensures { result ≡ pointer_at words }
 {
-    let phase = pointer_phase_of(words[19]);
-    let x = signed_of(words[20]);
-    let y = signed_of(words[21]);
-    let delta_x = signed_of(words[22]);
-    let delta_y = signed_of(words[23]);
-    let tilt_x = short_of(words[25]);
-    let tilt_y = short_of(words[26]);
-    let changed_button = button_of(ButtonNumbers {
-        present: words[28],
-        button: words[29],
-    });
     PointerInput {
-        contact: low_half(words[18]),
-        phase,
-        x_milli: x.value,
-        y_milli: y.value,
-        delta_x_milli: delta_x.value,
-        delta_y_milli: delta_y.value,
-        pressure_q15: low_quarter(words[24]),
-        tilt_x_degrees: tilt_x.value,
-        tilt_y_degrees: tilt_y.value,
-        buttons: low_half(words[27]),
-        changed_button,
+        contact: u32::from_number(words[18]),
+        phase: PointerPhase::from_number(words[19]),
+        x_milli: i32::from_number(words[20]),
+        y_milli: i32::from_number(words[21]),
+        delta_x_milli: i32::from_number(words[22]),
+        delta_y_milli: i32::from_number(words[23]),
+        pressure_q15: u16::from_number(words[24]),
+        tilt_x_degrees: i16::from_number(words[25]),
+        tilt_y_degrees: i16::from_number(words[26]),
+        buttons: u32::from_number(words[27]),
+        changed_button: button_of(ButtonNumbers {
+            present: words[28],
+            button: words[29],
+        }),
     }
 }
 
 fn wheel_at(words: [u64; 32]) -> WheelInput
     ensures { result ≡ wheel_at words }
 {
-    let x = signed_of(words[19]);
-    let y = signed_of(words[20]);
-    let delta_x = signed_of(words[21]);
-    let delta_y = signed_of(words[22]);
-    let unit = wheel_unit_of(words[23]);
     WheelInput {
-        contact: low_half(words[18]),
-        x_milli: x.value,
-        y_milli: y.value,
-        delta_x_milli: delta_x.value,
-        delta_y_milli: delta_y.value,
-        unit,
+        contact: u32::from_number(words[18]),
+        x_milli: i32::from_number(words[19]),
+        y_milli: i32::from_number(words[20]),
+        delta_x_milli: i32::from_number(words[21]),
+        delta_y_milli: i32::from_number(words[22]),
+        unit: WheelUnit::from_number(words[23]),
     }
 }
 
 fn key_at(words: [u64; 32]) -> KeyInput
     ensures { result ≡ key_at words }
 {
-    let phase = key_phase_of(words[18]);
     KeyInput {
-        phase,
-        physical_key: low_half(words[19]),
-        repeat: is_one(words[20]),
+        phase: KeyPhase::from_number(words[18]),
+        physical_key: u32::from_number(words[19]),
+        repeat: bool::from_number(words[20]),
     }
 }
 
 fn composition_at(words: [u64; 32]) -> CompositionInput
     ensures { result ≡ composition_at words }
 {
-    let phase = composition_phase_of(words[18]);
     CompositionInput {
-        phase,
-        length: low_half(words[19]),
-        selection_start: low_half(words[20]),
-        selection_end: low_half(words[21]),
+        phase: CompositionPhase::from_number(words[18]),
+        length: u32::from_number(words[19]),
+        selection_start: u32::from_number(words[20]),
+        selection_end: u32::from_number(words[21]),
     }
 }
 
 fn gamepad_at(words: [u64; 32]) -> GamepadInput
     ensures { result ≡ gamepad_at words }
 {
-    let mapping = mapping_of(words[19]);
     GamepadInput {
-        connected: is_one(words[18]),
-        mapping,
+        connected: bool::from_number(words[18]),
+        mapping: GamepadMapping::from_number(words[19]),
     }
 }
 
@@ -96,38 +81,21 @@ fn gamepad_at(words: [u64; 32]) -> GamepadInput
 pub fn payload_at(words: [u64; 32]) -> PlatformInputPayload
     ensures { result ≡ payload_at words }
 {
-    let kind = words[17];
-    if kind == 0 {
-        return PlatformInputPayload::Pointer(pointer_at(words));
-    }
-    if kind == 1 {
-        return PlatformInputPayload::Wheel(wheel_at(words));
-    }
-    if kind == 2 {
-        return PlatformInputPayload::Key(key_at(words));
-    }
-    if kind == 3 {
-        return PlatformInputPayload::Shortcut(ShortcutInput {
+    match words[17] {
+        0 => PlatformInputPayload::Pointer(pointer_at(words)),
+        1 => PlatformInputPayload::Wheel(wheel_at(words)),
+        2 => PlatformInputPayload::Key(key_at(words)),
+        3 => PlatformInputPayload::Shortcut(ShortcutInput {
             class_mask: words[18],
-            system: is_one(words[19]),
-        });
+            system: bool::from_number(words[19]),
+        }),
+        4 => PlatformInputPayload::Text(TextInput {
+            length: u32::from_number(words[18]),
+        }),
+        5 => PlatformInputPayload::Composition(composition_at(words)),
+        6 => PlatformInputPayload::GamepadSnapshot(gamepad_at(words)),
+        7 => PlatformInputPayload::FocusChanged(bool::from_number(words[18])),
+        8 => PlatformInputPayload::VisibilityChanged(bool::from_number(words[18])),
+        _ => PlatformInputPayload::DeviceDisconnected,
     }
-    if kind == 4 {
-        return PlatformInputPayload::Text(TextInput {
-            length: low_half(words[18]),
-        });
-    }
-    if kind == 5 {
-        return PlatformInputPayload::Composition(composition_at(words));
-    }
-    if kind == 6 {
-        return PlatformInputPayload::GamepadSnapshot(gamepad_at(words));
-    }
-    if kind == 7 {
-        return PlatformInputPayload::FocusChanged(is_one(words[18]));
-    }
-    if kind == 8 {
-        return PlatformInputPayload::VisibilityChanged(is_one(words[18]));
-    }
-    PlatformInputPayload::DeviceDisconnected
 }

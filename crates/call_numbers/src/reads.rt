@@ -1,4 +1,7 @@
 // The calls that alter nothing: numbers 26 to 36.
+
+#![tactic(auto, unfolding(crate::specs::Reads::read_at))]
+
 ghost use Rattle.std.specs.Prelude.{◌≡◌};
 ghost use Rattle.call_numbers.specs.Reads.{read_at};
 
@@ -11,44 +14,25 @@ use calls::call::ReadCall;
 pub fn read_at(words: [u64; 32]) -> ReadCall
     ensures { result ≡ read_at words }
 {
-    let number = words[0];
     let handle = handle_at(words, 1);
-    if number == 26 {
-        return ReadCall::ViewWindow(handle);
-    }
-    if number == 27 {
-        return ReadCall::ViewMetrics(handle);
-    }
-    if number == 28 {
-        return ReadCall::ViewInputState(handle);
-    }
-    if number == 29 {
-        return ReadCall::ViewPointerCaptures(handle);
-    }
-    if number == 30 {
-        return ReadCall::SurfaceDescriptor(handle);
-    }
-    if number == 31 {
-        return ReadCall::ViewLayers(handle);
-    }
-    if number == 32 {
-        return ReadCall::Traces;
-    }
-    if number == 33 {
-        return ReadCall::Counts;
-    }
-    if number == 34 {
-        return ReadCall::ActiveBindingCount;
-    }
-    if number == 35 {
-        let point = point_at(words, 3);
-        return ReadCall::HitTestStack(HitTestArguments {
+    match words[0] {
+        26 => ReadCall::ViewWindow(handle),
+        27 => ReadCall::ViewMetrics(handle),
+        28 => ReadCall::ViewInputState(handle),
+        29 => ReadCall::ViewPointerCaptures(handle),
+        30 => ReadCall::SurfaceDescriptor(handle),
+        31 => ReadCall::ViewLayers(handle),
+        32 => ReadCall::Traces,
+        33 => ReadCall::Counts,
+        34 => ReadCall::ActiveBindingCount,
+        35 => ReadCall::HitTestStack(HitTestArguments {
             view: handle,
-            point,
+            point: point_at(words, 3),
             length: words[5],
-        });
+        }),
+        _ => ReadCall::InversePoint(InversePointArguments {
+            transform: transform_at(words, 1),
+            point: point_at(words, 7),
+        }),
     }
-    let transform = transform_at(words, 1);
-    let point = point_at(words, 7);
-    ReadCall::InversePoint(InversePointArguments { transform, point })
 }

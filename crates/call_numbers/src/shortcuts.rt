@@ -1,4 +1,7 @@
 // The calls that register system shortcuts: numbers 17 to 19. The list of 17 stands behind its fields.
+
+#![tactic(auto, unfolding(crate::specs::Shortcuts::shortcut_at))]
+
 ghost use Rattle.std.specs.Prelude.{◌≡◌};
 ghost use Rattle.call_numbers.specs.Shortcuts.{shortcut_at};
 
@@ -11,33 +14,28 @@ use calls::call::ShortcutCall;
 pub fn shortcut_at(words: [u64; 32]) -> ShortcutCall
     ensures { result ≡ shortcut_at words }
 {
-    let number = words[0];
     let handle = handle_at(words, 1);
-    if number == 17 {
-        return ShortcutCall::RegisterSet(HandleArguments {
+    match words[0] {
+        17 => ShortcutCall::RegisterSet(HandleArguments {
             handle,
             revision: words[3],
-        });
-    }
-    if number == 18 {
-        let numbers = RegistrationNumbers {
-            class_mask: words[4],
-            scope: words[5],
-            priority: words[6],
-        };
-        let registration = maybe_of(MaybeNumbers {
-            present: words[3],
-            registration: numbers,
-        });
-        return ShortcutCall::RegisterOne(RegistrationArguments {
+        }),
+        18 => ShortcutCall::RegisterOne(RegistrationArguments {
             surface: handle,
-            registration,
+            registration: maybe_of(MaybeNumbers {
+                present: words[3],
+                registration: RegistrationNumbers {
+                    class_mask: words[4],
+                    scope: words[5],
+                    priority: words[6],
+                },
+            }),
             revision: words[7],
-        });
+        }),
+        _ => ShortcutCall::SetMask(MaskArguments {
+            surface: handle,
+            class_mask: words[3],
+            revision: words[4],
+        }),
     }
-    ShortcutCall::SetMask(MaskArguments {
-        surface: handle,
-        class_mask: words[3],
-        revision: words[4],
-    })
 }

@@ -10,10 +10,7 @@ use maps::keys::CompositionPointerId;
 pub fn word(words: [u64; 32], i: usize) -> u64
     ensures { result ≡ get_or words i 0 }
 {
-    if i < 32 {
-        return words[i];
-    }
-    0
+    words.get(i).copied().unwrap_or(0)
 }
 
 pub fn handle_at(words: [u64; 32], at: u8) -> GenerationalHandle
@@ -27,12 +24,11 @@ pub fn optional_at(words: [u64; 32], at: u8) -> OptionalHandle
     ensures { result ≡ optional_at words at }
 {
     let i = at as usize;
-    let numbers = OptionalNumbers {
+    optional_of(OptionalNumbers {
         present: word(words, i),
         index: word(words, i + 1),
         generation: word(words, i + 2),
-    };
-    optional_of(numbers)
+    })
 }
 
 pub fn pointer_at(words: [u64; 32], at: u8) -> CompositionPointerId
