@@ -1,23 +1,13 @@
--- The numbers of points, transforms and geometries, field by field, as a call's form takes them up. A signed number is
+-- The numbers of transforms and geometries, field by field, as a call's form takes them up. A signed number is
 -- its two's complement.
 use Rattle.std.specs.Int.{w32}
 use Rattle.std.proofs.Common.{of_z}
-use Rattle.geometry.specs.declared.metrics.ViewMetricsUpdate.{ViewMetricsUpdate}
 use Rattle.geometry.specs.declared.surface.SurfaceGeometry.{SurfaceGeometry}
-use Rattle.geometry.specs.declared.transform.Point.{Point}
 use Rattle.geometry.specs.declared.transform.SurfaceTransform.{SurfaceTransform}
 use Rattle.call_fields.specs.Groups.{rect_numbers}
 use Rattle.call_fields.specs.Narrow.{one_if}
 use Rattle.call_forms.specs.declared.geometries.GeometryNumbers.{GeometryNumbers}
-use Rattle.call_forms.specs.declared.geometries.PointNumbers.{PointNumbers}
 use Rattle.call_forms.specs.declared.geometries.TransformNumbers.{TransformNumbers}
-
-abbrev pub point_fields : Point → PointNumbers
-point_fields p = record { x = of_z w32 p.x_milli; y = of_z w32 p.y_milli }
-
--- a view's origin
-abbrev pub origin_fields : ViewMetricsUpdate → PointNumbers
-origin_fields u = record { x = of_z w32 u.origin_x_milli; y = of_z w32 u.origin_y_milli }
 
 -- the matrix, row by row, and the translation
 abbrev pub transform_fields : SurfaceTransform → TransformNumbers

@@ -1,4 +1,3 @@
 pub mod Geometries
-pub mod Moves
 pub mod Forms
 pub mod Claims

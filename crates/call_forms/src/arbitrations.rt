@@ -1,4 +1,7 @@
 // The call `arbitrate`: its view, the event's kind and its fields. The hits stand beside the call.
+
+#![tactic(auto, unfolding(call_numbers::specs::Arbitrations::event_numbers))]
+
 ghost use Rattle.std.specs.Prelude.{◌≡◌, [], ◌∷◌, ◌++◌};
 ghost use Rattle.lists.specs.Lists.{pad};
 ghost use Rattle.call_numbers.specs.Arbitrations.{arbitrate_numbers};
@@ -6,6 +9,7 @@ ghost use Rattle.call_numbers.specs.Words.{handle_numbers, optional_numbers, poi
 
 use crate::shared::handle_form;
 use call_fields::groups::optional_numbers;
+use call_fields::numbered::Numbered;
 use calls::arguments::ArbitrateArguments;
 use handles::{GenerationalHandle, OptionalHandle};
 use maps::keys::CompositionPointerId;
@@ -35,8 +39,8 @@ fn pointer_form(view: GenerationalHandle, kind: u64, pointer: CompositionPointer
 {
     let mut words = kind_form(view, kind);
     words[4] = pointer.device;
-    words[5] = pointer.device_generation as u64;
-    words[6] = pointer.contact as u64;
+    words[5] = pointer.device_generation.number();
+    words[6] = pointer.contact.number();
     words
 }
 
@@ -67,8 +71,7 @@ pub fn arbitrate_form(given: ArbitrateArguments) -> [u64; 32]
     ensures { result ≡ pad 32 0 (arbitrate_numbers given) }
 {
     let view = given.view;
-    let event = given.event;
-    match event {
+    match given.event {
         ArbitrationEvent::Pointer { hit } => target_form(view, 0, hit),
         ArbitrationEvent::PointerStack => kind_form(view, 1),
         ArbitrationEvent::PointerFor { pointer, hit } => hit_form(view, pointer, hit),

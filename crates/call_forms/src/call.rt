@@ -1,11 +1,13 @@
 // Any call as numbers, and whether numbers are a call's form.
+
+#![tactic(auto, unfolding(crate::specs::Forms::is_form, call_numbers::specs::Calls::call_numbers, call_numbers::specs::Events::router_numbers))]
+
 ghost use Rattle.std.specs.Prelude.{◌≡◌};
-ghost use Rattle.lists.specs.Below.{all_below};
 ghost use Rattle.lists.specs.Lists.{pad};
 ghost use Rattle.call_numbers.specs.Calls.{call_numbers};
 ghost use Rattle.call_numbers.specs.Events.{router_numbers};
 ghost use Rattle.call_forms.specs.Claims.{CallFormClaims};
-ghost use Rattle.call_forms.specs.Forms.{same_at, is_form};
+ghost use Rattle.call_forms.specs.Forms.{is_form};
 
 use crate::arbitrations::arbitrate_form;
 use crate::inputs::{device_form, input_form};
@@ -51,25 +53,11 @@ pub fn numbers_of(call: Call) -> [u64; 32]
     }
 }
 
-fn are_same(a: [u64; 32], b: [u64; 32]) -> bool
-    ensures { result ≡ all_below (same_at a b) 32 }
-{
-    let mut same = true;
-    let mut i: usize = 0;
-    while i < 32 {
-        same = lists::both(same, a[i] == b[i]);
-        i += 1;
-    }
-    same
-}
-
 // Whether the numbers are what their call is written as.
 pub fn is_form(words: [u64; 32]) -> bool
     ensures { result ≡ is_form words }
 {
-    let call = call_at(words);
-    let written = numbers_of(call);
-    are_same(words, written)
+    words == numbers_of(call_at(words))
 }
 
 // No call has two forms, and every call has one.

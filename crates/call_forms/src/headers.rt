@@ -3,8 +3,7 @@ ghost use Rattle.std.specs.Prelude.{◌≡◌, ◌∷◌};
 ghost use Rattle.lists.specs.Lists.{pad};
 ghost use Rattle.call_numbers.specs.Events.{header_numbers};
 
-use call_fields::event_choices::device_kind_number;
-use call_fields::narrow::one_if;
+use call_fields::numbered::Numbered;
 use input_events::event::PlatformInputHeader;
 
 pub fn header_form(header: PlatformInputHeader) -> [u64; 32]
@@ -12,26 +11,24 @@ pub fn header_form(header: PlatformInputHeader) -> [u64; 32]
 {
     let window = header.window;
     let view = header.view;
-    let device = header.device;
-    let kind = header.device_kind;
     let modifiers = header.modifiers;
     let mut words = [0u64; 32];
     words[0] = 23;
     words[1] = header.sequence;
     words[2] = header.timestamp_micros;
     words[3] = header.metrics_revision;
-    words[4] = window.index as u64;
-    words[5] = window.generation as u64;
-    words[6] = view.index as u64;
-    words[7] = view.generation as u64;
-    words[8] = device.value;
-    words[9] = device.generation as u64;
-    words[10] = device_kind_number(kind);
-    words[11] = one_if(modifiers.shift);
-    words[12] = one_if(modifiers.control);
-    words[13] = one_if(modifiers.alt);
-    words[14] = one_if(modifiers.meta);
-    words[15] = one_if(modifiers.caps_lock);
-    words[16] = one_if(modifiers.num_lock);
+    words[4] = window.index.number();
+    words[5] = window.generation.number();
+    words[6] = view.index.number();
+    words[7] = view.generation.number();
+    words[8] = header.device.value;
+    words[9] = header.device.generation.number();
+    words[10] = header.device_kind.number();
+    words[11] = modifiers.shift.number();
+    words[12] = modifiers.control.number();
+    words[13] = modifiers.alt.number();
+    words[14] = modifiers.meta.number();
+    words[15] = modifiers.caps_lock.number();
+    words[16] = modifiers.num_lock.number();
     words
 }

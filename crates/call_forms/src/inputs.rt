@@ -1,4 +1,7 @@
 // The calls on focus, captures, compositions and suspends, and the release of a device's captures.
+
+#![tactic(auto, unfolding(call_numbers::specs::Inputs::input_numbers))]
+
 ghost use Rattle.std.specs.Prelude.{◌≡◌, [], ◌∷◌, ◌++◌};
 ghost use Rattle.lists.specs.Lists.{pad};
 ghost use Rattle.call_numbers.specs.Inputs.{input_numbers, device_numbers};
@@ -6,6 +9,7 @@ ghost use Rattle.call_numbers.specs.Words.{handle_numbers, optional_numbers};
 
 use crate::shared::{handle_form, pointer_form, revision_form};
 use call_fields::groups::optional_numbers;
+use call_fields::numbered::Numbered;
 use calls::arguments::{DeviceArguments, FocusArguments};
 use calls::call::InputCall;
 
@@ -13,10 +17,8 @@ fn focus_form(focus: FocusArguments) -> [u64; 32]
     ensures { result ≡ pad 32 0
         (8 ∷ handle_numbers focus.view ++ optional_numbers focus.surface ++ focus.revision ∷ []) }
 {
-    let view = focus.view;
-    let surface = focus.surface;
-    let target = optional_numbers(surface);
-    let mut words = handle_form(8, view);
+    let target = optional_numbers(focus.surface);
+    let mut words = handle_form(8, focus.view);
     words[3] = target.present;
     words[4] = target.index;
     words[5] = target.generation;
@@ -45,6 +47,6 @@ pub fn device_form(released: DeviceArguments) -> [u64; 32]
     let mut words = [0u64; 32];
     words[0] = 16;
     words[1] = released.device;
-    words[2] = released.device_generation as u64;
+    words[2] = released.device_generation.number();
     words
 }

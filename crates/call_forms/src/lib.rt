@@ -7,7 +7,6 @@ pub mod call;
 pub mod geometries;
 pub mod headers;
 pub mod inputs;
-pub mod moves;
 pub mod panels;
 pub mod payloads;
 pub mod reads;

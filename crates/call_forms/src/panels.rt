@@ -1,17 +1,17 @@
 // The calls on windows, views and panels.
+
+#![tactic(auto, unfolding(call_numbers::specs::Panels::panel_numbers))]
+
 ghost use Rattle.std.specs.Prelude.{◌≡◌, [], ◌∷◌, ◌++◌};
-ghost use Rattle.std.specs.Int.{w32};
-ghost use Rattle.std.proofs.Common.{of_z};
 ghost use Rattle.lists.specs.Lists.{pad};
 ghost use Rattle.call_fields.specs.PanelChoices.{policy_number};
 ghost use Rattle.call_numbers.specs.Geometries.{geometry_numbers, metrics_numbers};
 ghost use Rattle.call_numbers.specs.Panels.{descriptor_numbers, panel_numbers};
 ghost use Rattle.call_numbers.specs.Words.{handle_numbers};
 
-use crate::geometries::{geometry_numbers, origin_numbers};
+use crate::geometries::geometry_numbers;
 use crate::shared::{bare_form, handle_form};
-use call_fields::narrow::{Signed, bits_of, one_if};
-use call_fields::panel_choices::{policy_number, surface_kind_number, visibility_number};
+use call_fields::numbered::Numbered;
 use calls::arguments::{GeometryArguments, MetricsArguments, PolicyArguments};
 use calls::call::PanelCall;
 use records::surface::SurfaceDescriptor;
@@ -20,50 +20,37 @@ fn metrics_form(given: MetricsArguments) -> [u64; 32]
     ensures { result ≡ pad 32 0
         (3 ∷ handle_numbers given.view ++ metrics_numbers given.update ++ given.revision ∷ []) }
 {
-    let view = given.view;
     let update = given.update;
     let safe_area = update.safe_area;
-    let visibility = update.visibility;
-    let origin = origin_numbers(update);
-    let mut words = handle_form(3, view);
-    words[3] = origin.x;
-    words[4] = origin.y;
-    words[5] = update.width_milli as u64;
-    words[6] = update.height_milli as u64;
-    words[7] = update.framebuffer_width as u64;
-    words[8] = update.framebuffer_height as u64;
-    words[9] = update.scale_q16 as u64;
-    words[10] = safe_area.top_milli as u64;
-    words[11] = safe_area.right_milli as u64;
-    words[12] = safe_area.bottom_milli as u64;
-    words[13] = safe_area.left_milli as u64;
-    words[14] = visibility_number(visibility);
+    let mut words = handle_form(3, given.view);
+    words[3] = update.origin_x_milli.number();
+    words[4] = update.origin_y_milli.number();
+    words[5] = update.width_milli.number();
+    words[6] = update.height_milli.number();
+    words[7] = update.framebuffer_width.number();
+    words[8] = update.framebuffer_height.number();
+    words[9] = update.scale_q16.number();
+    words[10] = safe_area.top_milli.number();
+    words[11] = safe_area.right_milli.number();
+    words[12] = safe_area.bottom_milli.number();
+    words[13] = safe_area.left_milli.number();
+    words[14] = update.visibility.number();
     words[15] = given.revision;
     words
-}
-
-fn z_order_number(d: SurfaceDescriptor) -> u64
-    ensures { result ≡ of_z w32 d.z_order }
-{
-    bits_of(Signed { value: d.z_order })
 }
 
 fn attach_form(d: SurfaceDescriptor) -> [u64; 32]
     ensures { result ≡ pad 32 0 (5 ∷ descriptor_numbers d) }
 {
-    let view = d.view;
-    let kind = d.kind;
-    let input = d.input;
-    let geometry = d.geometry;
-    let g = geometry_numbers(geometry);
+    let g = geometry_numbers(d.geometry);
     let bounds = g.bounds;
     let clip = g.clip;
     let transform = g.transform;
-    let mut words = handle_form(5, view);
-    words[3] = surface_kind_number(kind);
-    words[4] = z_order_number(d);
-    words[5] = policy_number(input);
-    words[6] = one_if(d.accepts_text);
+    let mut words = handle_form(5, d.view);
+    words[3] = d.kind.number();
+    words[4] = d.z_order.number();
+    words[5] = d.input.number();
+    words[6] = d.accepts_text.number();
     words[7] = bounds.present;
     words[8] = bounds.x_milli;
     words[9] = bounds.y_milli;
@@ -89,13 +76,11 @@ fn geometry_form(given: GeometryArguments) -> [u64; 32]
     ensures { result ≡ pad 32 0
         (6 ∷ handle_numbers given.surface ++ geometry_numbers given.geometry ++ given.revision ∷ []) }
 {
-    let surface = given.surface;
-    let geometry = given.geometry;
-    let g = geometry_numbers(geometry);
+    let g = geometry_numbers(given.geometry);
     let bounds = g.bounds;
     let clip = g.clip;
     let transform = g.transform;
-    let mut words = handle_form(6, surface);
+    let mut words = handle_form(6, given.surface);
     words[3] = bounds.present;
     words[4] = bounds.x_milli;
     words[5] = bounds.y_milli;
@@ -122,10 +107,8 @@ fn policy_form(given: PolicyArguments) -> [u64; 32]
     ensures { result ≡ pad 32 0
         (7 ∷ handle_numbers given.surface ++ policy_number given.input ∷ given.revision ∷ []) }
 {
-    let surface = given.surface;
-    let input = given.input;
-    let mut words = handle_form(7, surface);
-    words[3] = policy_number(input);
+    let mut words = handle_form(7, given.surface);
+    words[3] = given.input.number();
     words[4] = given.revision;
     words
 }

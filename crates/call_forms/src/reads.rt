@@ -1,12 +1,16 @@
 // The calls that alter nothing.
+
+#![tactic(auto, unfolding(call_numbers::specs::Reads::read_numbers))]
+
 ghost use Rattle.std.specs.Prelude.{◌≡◌, [], ◌∷◌, ◌++◌};
 ghost use Rattle.lists.specs.Lists.{pad};
 ghost use Rattle.call_numbers.specs.Geometries.{transform_numbers, point_numbers};
 ghost use Rattle.call_numbers.specs.Reads.{read_numbers};
 ghost use Rattle.call_numbers.specs.Words.{handle_numbers};
 
-use crate::geometries::{point_numbers, transform_numbers};
+use crate::geometries::transform_numbers;
 use crate::shared::{bare_form, handle_form};
+use call_fields::numbered::Numbered;
 use calls::arguments::{HitTestArguments, InversePointArguments};
 use calls::call::ReadCall;
 
@@ -14,12 +18,9 @@ fn hit_test_form(given: HitTestArguments) -> [u64; 32]
     ensures { result ≡ pad 32 0
         (35 ∷ handle_numbers given.view ++ point_numbers given.point ++ given.length ∷ []) }
 {
-    let view = given.view;
-    let point = given.point;
-    let at = point_numbers(point);
-    let mut words = handle_form(35, view);
-    words[3] = at.x;
-    words[4] = at.y;
+    let mut words = handle_form(35, given.view);
+    words[3] = given.point.x_milli.number();
+    words[4] = given.point.y_milli.number();
     words[5] = given.length;
     words
 }
@@ -27,10 +28,7 @@ fn hit_test_form(given: HitTestArguments) -> [u64; 32]
 fn inverse_form(given: InversePointArguments) -> [u64; 32]
     ensures { result ≡ pad 32 0 (36 ∷ transform_numbers given.transform ++ point_numbers given.point) }
 {
-    let transform = given.transform;
-    let point = given.point;
-    let t = transform_numbers(transform);
-    let at = point_numbers(point);
+    let t = transform_numbers(given.transform);
     let mut words = bare_form(36);
     words[1] = t.m11;
     words[2] = t.m12;
@@ -38,8 +36,8 @@ fn inverse_form(given: InversePointArguments) -> [u64; 32]
     words[4] = t.m22;
     words[5] = t.x;
     words[6] = t.y;
-    words[7] = at.x;
-    words[8] = at.y;
+    words[7] = given.point.x_milli.number();
+    words[8] = given.point.y_milli.number();
     words
 }
 

@@ -1,4 +1,7 @@
 // The calls that register system shortcuts. The registrations of a set stand beside the call.
+
+#![tactic(auto, unfolding(call_numbers::specs::Shortcuts::shortcut_numbers))]
+
 ghost use Rattle.std.specs.Prelude.{◌≡◌, [], ◌∷◌, ◌++◌};
 ghost use Rattle.lists.specs.Lists.{pad};
 ghost use Rattle.call_numbers.specs.Shortcuts.{shortcut_numbers, maybe_numbers};
@@ -13,11 +16,9 @@ fn registration_form(given: RegistrationArguments) -> [u64; 32]
     ensures { result ≡ pad 32 0
         (18 ∷ handle_numbers given.surface ++ maybe_numbers given.registration ++ given.revision ∷ []) }
 {
-    let surface = given.surface;
-    let optional = given.registration;
-    let numbers = maybe_numbers(optional);
+    let numbers = maybe_numbers(given.registration);
     let registration = numbers.registration;
-    let mut words = handle_form(18, surface);
+    let mut words = handle_form(18, given.surface);
     words[3] = numbers.present;
     words[4] = registration.class_mask;
     words[5] = registration.scope;
@@ -30,8 +31,7 @@ fn mask_form(given: MaskArguments) -> [u64; 32]
     ensures { result ≡ pad 32 0
         (19 ∷ handle_numbers given.surface ++ given.class_mask ∷ given.revision ∷ []) }
 {
-    let surface = given.surface;
-    let mut words = handle_form(19, surface);
+    let mut words = handle_form(19, given.surface);
     words[3] = given.class_mask;
     words[4] = given.revision;
     words

@@ -1,5 +1,0 @@
--- `kind_form` meets its contract, by those of what it calls.
-use Rattle.call_forms.proofs.arbitrations.kind_form.Goals as goal
-
-pub returns : goal.returns
-returns c = rw c.handle_form-words.ensures

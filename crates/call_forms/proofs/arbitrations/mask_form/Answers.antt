@@ -1,5 +1,0 @@
--- `mask_form` meets its contract, by those of what it calls.
-use Rattle.call_forms.proofs.arbitrations.mask_form.Goals as goal
-
-pub returns : goal.returns
-returns c = rw c.kind_form-words.ensures

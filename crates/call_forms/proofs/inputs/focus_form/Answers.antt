@@ -1,5 +1,0 @@
--- `focus_form` meets its contract, by those of what it calls.
-use Rattle.call_forms.proofs.inputs.focus_form.Goals as goal
-
-pub returns : goal.returns
-returns c = rw (c.handle_form-words.ensures, c.optional_numbers-target.ensures)

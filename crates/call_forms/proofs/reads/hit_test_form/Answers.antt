@@ -1,5 +1,0 @@
--- `hit_test_form` meets its contract, by those of what it calls.
-use Rattle.call_forms.proofs.reads.hit_test_form.Goals as goal
-
-pub returns : goal.returns
-returns c = rw (c.handle_form-words.ensures, c.point_numbers-at.ensures)
