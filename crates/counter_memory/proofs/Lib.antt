@@ -1,4 +1,3 @@
-pub mod ChoiceLaws
 pub mod FillLaws
 pub mod RoundLaws
 pub mod ClaimLaws

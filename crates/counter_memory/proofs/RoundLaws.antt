@@ -19,7 +19,7 @@ use Rattle.records.specs.declared.trace.ArbitrationEvent.TheVariants.{Pointer, P
 use Rattle.records.specs.declared.trace.CompositionTrace.{CompositionTrace}
 use Rattle.records.specs.declared.view.ViewRecord.{ViewRecord}
 use Rattle.input_router.specs.declared.router.PlatformInputRouter.{PlatformInputRouter}
-use Rattle.call_fields.proofs.ChoiceLaws.{surface_kind_back, policy_back, scope_back, visibility_back}
+use Rattle.call_fields.specs.Back.{surface_kind_back, policy_back, scope_back, visibility_back}
 use Rattle.counter_memory.specs.Optionals.{optional_handle_memory, optional_handle_of, optional_rect_memory, optional_rect_of}
 use Rattle.counter_memory.specs.Events.{event_memory, event_of}
 use Rattle.counter_memory.specs.Views.{metrics_memory, metrics_of, view_memory, view_of}

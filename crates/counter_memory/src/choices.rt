@@ -2,6 +2,7 @@
 ghost use Rattle.std.specs.Prelude.{◌≡◌};
 ghost use Rattle.call_fields.specs.PanelChoices.{surface_kind_number, surface_kind_of, policy_number, policy_of, scope_number, scope_of, visibility_number, visibility_of};
 
+use call_fields::numbered::Numbered;
 use geometry::metrics::ViewVisibility;
 use records::shortcut::ShortcutScope;
 use records::surface::{SurfaceInputPolicy, SurfaceKind};
@@ -9,47 +10,47 @@ use records::surface::{SurfaceInputPolicy, SurfaceKind};
 pub fn kind_number(kind: SurfaceKind) -> u8
     ensures { result ≡ surface_kind_number kind }
 {
-    call_fields::panel_choices::surface_kind_number(kind) as u8
+    kind as u8
 }
 
 pub fn kind_of(number: u8) -> SurfaceKind
     ensures { result ≡ surface_kind_of number }
 {
-    call_fields::panel_choices::surface_kind_of(number as u64)
+    SurfaceKind::from_number(number as u64)
 }
 
 pub fn policy_number(policy: SurfaceInputPolicy) -> u8
     ensures { result ≡ policy_number policy }
 {
-    call_fields::panel_choices::policy_number(policy) as u8
+    policy as u8
 }
 
 pub fn policy_of(number: u8) -> SurfaceInputPolicy
     ensures { result ≡ policy_of number }
 {
-    call_fields::panel_choices::policy_of(number as u64)
+    SurfaceInputPolicy::from_number(number as u64)
 }
 
 pub fn scope_number(scope: ShortcutScope) -> u8
     ensures { result ≡ scope_number scope }
 {
-    call_fields::panel_choices::scope_number(scope) as u8
+    scope as u8
 }
 
 pub fn scope_of(number: u8) -> ShortcutScope
     ensures { result ≡ scope_of number }
 {
-    call_fields::panel_choices::scope_of(number as u64)
+    ShortcutScope::from_number(number as u64)
 }
 
 pub fn visibility_number(visibility: ViewVisibility) -> u8
     ensures { result ≡ visibility_number visibility }
 {
-    call_fields::panel_choices::visibility_number(visibility) as u8
+    visibility as u8
 }
 
 pub fn visibility_of(number: u8) -> ViewVisibility
     ensures { result ≡ visibility_of number }
 {
-    call_fields::panel_choices::visibility_of(number as u64)
+    ViewVisibility::from_number(number as u64)
 }

@@ -1,1 +1,2 @@
 pub mod RegistrationLaws
+pub mod RangeLaws

@@ -19,8 +19,7 @@ use Rattle.call_fields.specs.declared.groups.RegistrationNumbers.{RegistrationNu
 use Rattle.call_fields.specs.Groups.{registration_of, registration_numbers}
 use Rattle.call_fields.specs.Narrow.{short_of}
 use Rattle.call_fields.specs.PanelChoices.{scope_of, scope_number}
-use Rattle.call_fields.proofs.ChoiceLaws.{scope_back}
-use Rattle.call_fields.proofs.NarrowLaws.{within_back, short_back}
+use Rattle.call_fields.specs.Back.{scope_back, within_back, short_back}
 use Rattle.host_message.specs.declared.registrations.RegistrationsNumbers.{RegistrationsNumbers}
 use Rattle.host_message.specs.Claims.{RegistrationClaims}
 use Rattle.host_message.specs.Registrations.{registrations_of, registrations_numbers, is_entry_form, entry_form}
@@ -37,7 +36,7 @@ scope_forth (suc zero) h = refl
 scope_forth (suc (suc zero)) h = refl
 scope_forth (suc (suc (suc n))) h = absurd (omega arith)
 
-priority_forth : (n : ℕ) → n < 65536 → of_z w16 (short_of n).value ≡ n
+priority_forth : (n : ℕ) → n < 65536 → of_z w16 (short_of n) ≡ n
 unfolding short_of
 priority_forth n h = rw (within_back 65536 n h) (of_z-to_z {w = w16} {n = n} (record { fits = h }))
 

@@ -9,22 +9,11 @@ use records::trace::Hits;
 fn is_hit_form(len: usize, at: usize, hit: GenerationalHandle) -> bool
     ensures { result ≡ is_hit_form len at hit }
 {
-    if at < len {
-        return true;
-    }
-    lists::both(hit.index == 0, hit.generation == 0)
+    at < len || hit.index == 0 && hit.generation == 0
 }
 
 pub fn are_hits_form(hits: Hits) -> bool
     ensures { result ≡ all_below (hit_form hits) 16 }
 {
-    let len = hits.len;
-    let mut ok = true;
-    let mut i: usize = 0;
-    while i < 16 {
-        let hit = hits.items[i];
-        ok = lists::both(ok, is_hit_form(len, i, hit));
-        i += 1;
-    }
-    ok
+    (0..16).all(|i| is_hit_form(hits.len, i, hits.items[i]))
 }

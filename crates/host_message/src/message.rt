@@ -1,4 +1,7 @@
 // A message: a call's numbers and the lists beside it.
+
+#![tactic(auto, unfolding(crate::specs::Messages::is_message))]
+
 ghost use Rattle.std.specs.Prelude.{◌≡◌};
 ghost use Rattle.host_message.specs.Messages.{takes_hits, takes_registrations, is_allowed, is_message};
 
@@ -22,69 +25,31 @@ fn takes_hits(call: Call) -> bool
     ensures { result ≡ takes_hits call }
 {
     match call {
-        Call::Panel(_) => false,
-        Call::Input(_) => false,
-        Call::ReleaseDevice(_) => false,
-        Call::Shortcut(_) => false,
-        Call::Arbitrate(a) => {
-            let event = a.event;
-            is_stack(event)
-        }
-        Call::Close(_) => false,
-        Call::Router(_) => false,
-        Call::Read(_) => false,
-    }
-}
-
-fn is_set(call: ShortcutCall) -> bool
-    ensures { result ≡ takes_registrations (Call.Shortcut call) }
-{
-    match call {
-        ShortcutCall::RegisterSet(_) => true,
-        ShortcutCall::RegisterOne(_) => false,
-        ShortcutCall::SetMask(_) => false,
+        Call::Arbitrate(a) => is_stack(a.event),
+        _ => false,
     }
 }
 
 fn takes_registrations(call: Call) -> bool
     ensures { result ≡ takes_registrations call }
 {
-    match call {
-        Call::Panel(_) => false,
-        Call::Input(_) => false,
-        Call::ReleaseDevice(_) => false,
-        Call::Shortcut(c) => is_set(c),
-        Call::Arbitrate(_) => false,
-        Call::Close(_) => false,
-        Call::Router(_) => false,
-        Call::Read(_) => false,
-    }
+    matches!(call, Call::Shortcut(ShortcutCall::RegisterSet(_)))
 }
 
 fn is_allowed(takes: bool, len: usize) -> bool
     ensures { result ≡ is_allowed takes len }
 {
-    if takes {
-        return true;
-    }
-    len == 0
+    takes || len == 0
 }
 
 // Whether the message is the one form of its call.
 pub fn is_message(message: Message) -> bool
     ensures { result ≡ is_message message }
 {
-    let words = message.call;
-    let call = call_at(words);
-    let allowed = lists::both(
-        is_allowed(takes_hits(call), message.hits.len),
-        is_allowed(takes_registrations(call), message.registrations.len),
-    );
-    lists::both(
-        is_form(words),
-        lists::both(
-            are_hits_form(message.hits),
-            lists::both(are_registrations_form(message.registrations), allowed),
-        ),
-    )
+    let call = call_at(message.call);
+    is_form(message.call)
+        && are_hits_form(message.hits)
+        && are_registrations_form(message.registrations)
+        && is_allowed(takes_hits(call), message.hits.len)
+        && is_allowed(takes_registrations(call), message.registrations.len)
 }

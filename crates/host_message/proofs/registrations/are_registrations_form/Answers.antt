@@ -1,20 +1,10 @@
--- `are_registrations_form` meets its contract: after i turns the answer is that of the first i places.
-use mathlib.Core.Path.{◌≡◌, refl, sym, ap, ◌∙◌}
-use native.Mathlib.Omega.{arith}
-use Rattle.lists.specs.Below.{all_below}
-use Rattle.lists.proofs.BelowLaws.{all_none, all_more}
+-- `are_registrations_form` meets its contract: what holds of each place holds of all.
+use Rattle.std.proofs.Common.{rules, refl, ◌∙◌}
+use Rattle.std.proofs.lemmas.Iterator.{YieldsList-from_range}
+use Rattle.std.proofs.lemmas.Iterator.Search.{all_from_yields_List}
+use Rattle.host_message.proofs.RangeLaws.{all_in_range}
+use Rattle.host_message.specs.Registrations.{entry_form}
 use Rattle.host_message.proofs.registrations.are_registrations_form.Goals as goal
 
-pub loop-i-init : goal.loop-i-init
-loop-i-init c = (omega arith, refl, sym (all_none _))
-
-pub loop-i-preserved : goal.loop-i-preserved
-loop-i-preserved c =
-    let l = c.loop-i in
-    (omega arith, l.invariant.1, rw (c.both-ok.ensures, c.is_entry_form.ensures, l.invariant.1, l.invariant.2) (sym (all_more _ _)))
-
 pub returns : goal.returns
-returns c =
-    let l = c.loop-i in
-    let all : l.i ≡ 64 = omega arith in
-    l.invariant.2 ∙ ap (all_below _) all
+returns c = all_from_yields_List (entry_form c.args.numbers) _ _ c.all.result c.all.ensures.ran (YieldsList-from_range 0 64 64 refl refl) (λ x b q k. search rules) ∙ all_in_range (entry_form c.args.numbers) 64
