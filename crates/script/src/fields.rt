@@ -44,14 +44,14 @@ fn as_i64(n: Number) -> Option<i64>
 pub trait FieldType: Sized {
     ghost value_of: { Number → Option Self };
 
-    fn from_number(n: Number) -> Option<Self>
+    fn from_field(n: Number) -> Option<Self>
         ensures { result ≡ value_of n };
 }
 
 impl FieldType for u64 {
     ghost value_of = { unsigned_of max_u64 };
 
-    fn from_number(n: Number) -> Option<u64> {
+    fn from_field(n: Number) -> Option<u64> {
         as_at_most(n, u64::MAX)
     }
 }
@@ -59,7 +59,7 @@ impl FieldType for u64 {
 impl FieldType for u32 {
     ghost value_of = { unsigned_of 4294967295 };
 
-    fn from_number(n: Number) -> Option<u32> {
+    fn from_field(n: Number) -> Option<u32> {
         u32::try_from(as_at_most(n, u64::MAX)?).ok()
     }
 }
@@ -67,7 +67,7 @@ impl FieldType for u32 {
 impl FieldType for u16 {
     ghost value_of = { unsigned_of 65535 };
 
-    fn from_number(n: Number) -> Option<u16> {
+    fn from_field(n: Number) -> Option<u16> {
         u16::try_from(as_at_most(n, u64::MAX)?).ok()
     }
 }
@@ -75,7 +75,7 @@ impl FieldType for u16 {
 impl FieldType for u8 {
     ghost value_of = { unsigned_of 255 };
 
-    fn from_number(n: Number) -> Option<u8> {
+    fn from_field(n: Number) -> Option<u8> {
         u8::try_from(as_at_most(n, u64::MAX)?).ok()
     }
 }
@@ -83,7 +83,7 @@ impl FieldType for u8 {
 impl FieldType for bool {
     ghost value_of = { flag_of };
 
-    fn from_number(n: Number) -> Option<bool> {
+    fn from_field(n: Number) -> Option<bool> {
         Some(as_at_most(n, 1)? == 1)
     }
 }
@@ -91,7 +91,7 @@ impl FieldType for bool {
 impl FieldType for i32 {
     ghost value_of = { signed_of 2147483647 };
 
-    fn from_number(n: Number) -> Option<i32> {
+    fn from_field(n: Number) -> Option<i32> {
         i32::try_from(as_i64(n)?).ok()
     }
 }
@@ -99,7 +99,7 @@ impl FieldType for i32 {
 impl FieldType for i16 {
     ghost value_of = { signed_of 32767 };
 
-    fn from_number(n: Number) -> Option<i16> {
+    fn from_field(n: Number) -> Option<i16> {
         i16::try_from(as_i64(n)?).ok()
     }
 }

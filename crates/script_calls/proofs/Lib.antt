@@ -1,4 +1,2 @@
-pub mod ListFieldLaws
-pub mod ListClaimLaws
-pub mod LineListLaws
+pub mod ListLaws
 pub mod RowLaws

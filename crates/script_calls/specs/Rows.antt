@@ -1,13 +1,14 @@
 -- The replay format, Verbs: a line's fields as the numbers that a host hands in for the call. A row has a letter for
 -- each field, and the fields stand in the order of the call's numbers.
-use Rattle.std.specs.Prelude.{ℕ, ◌+◌, ◌/◌, ◌%◌, Bool, true, cond, ◌&&◌, refl, eqb, length, get_or}
+use Rattle.std.specs.Prelude.{ℕ, ◌+◌, ◌/◌, ◌%◌, Bool, cond, refl, eqb, length, get_or, Option, None, Some, is_some}
+use Rattle.std.specs.Option.{option_map, option_and_then}
 use Prim.Native.String.{String}
 use mathlib.Core.List.{List, [], ◌∷◌, ◌++◌, map, foldl}
 use Rattle.std.specs.Int.{w16, w32}
 use Rattle.std.proofs.Common.{of_z}
 use Rattle.lists.specs.Numbers.{max_u64}
 use Rattle.lists.specs.Tables.{Shape, packed, pushed_within}
-use Rattle.script.specs.Ranges.{unsigned_of, is_within, signed_of, is_within_signed}
+use Rattle.script.specs.Ranges.{unsigned_of, signed_of}
 use Rattle.script.specs.Texts.{bytes}
 use Rattle.script.specs.declared.line.Fields.{Fields}
 use Rattle.script.specs.declared.number.Number.{Number}
@@ -65,34 +66,35 @@ most_of c =
     (cond (is_letter "h" c) 65535
     (cond (is_letter "w" c) 4294967295 max_u64)))
 
--- whether a number is in a letter's range
-unfoldable pub is_in_range : ℕ → Number → Bool
-is_in_range c n =
-    cond (is_letter "i" c) (is_within_signed 2147483647 n)
-    (cond (is_letter "s" c) (is_within_signed 32767 n) (is_within (most_of c) n))
-
--- a field as a number of the call: a signed one is its two's complement
-unfoldable pub word_of : ℕ → Number → ℕ
+-- a field as a number of the call, if it is in its letter's range: a signed one is its two's complement
+unfoldable pub word_of : ℕ → Number → Option ℕ
 word_of c n =
-    cond (is_letter "i" c) (of_z w32 (signed_of 2147483647 n))
-    (cond (is_letter "s" c) (of_z w16 (signed_of 32767 n)) (unsigned_of max_u64 n))
+    cond (is_letter "i" c) (option_map (of_z w32) (signed_of 2147483647 n))
+    (cond (is_letter "s" c) (option_map (of_z w16) (signed_of 32767 n)) (unsigned_of (most_of c) n))
 
 -- the six bits of the modifiers, the lowest first
 abbrev pub bits_of : ℕ → List ℕ
 bits_of n = n % 2 ∷ n / 2 % 2 ∷ n / 4 % 2 ∷ n / 8 % 2 ∷ n / 16 % 2 ∷ n / 32 % 2 ∷ []
 
 -- a field as numbers of the call: the modifiers are six of them
-unfoldable pub words_of : ℕ → Number → List ℕ
-words_of c n = cond (is_letter "m" c) (bits_of (unsigned_of 63 n)) (word_of c n ∷ [])
+unfoldable pub words_of : ℕ → Number → Option (List ℕ)
+words_of c n =
+    cond (is_letter "m" c) (option_map bits_of (unsigned_of 63 n)) (option_map (λ w. w ∷ []) (word_of c n))
 
--- the fields of a row, from a place of the line on: their numbers, and whether each is in its range
-unfoldable pub row_words : List ℕ → Fields → ℕ → List ℕ
-row_words [] fs i = []
-row_words (c ∷ t) fs i = words_of c (number_at fs i) ++ row_words t fs (i + 1)
+-- two parts of a row, if both are there
+abbrev pub both_parts : Option (List ℕ) → Option (List ℕ) → Option (List ℕ)
+both_parts None l = None
+both_parts (Some k) None = None
+both_parts (Some k) (Some l) = Some (k ++ l)
 
-unfoldable pub is_row_in_range : List ℕ → Fields → ℕ → Bool
-is_row_in_range [] fs i = true
-is_row_in_range (c ∷ t) fs i = is_in_range c (number_at fs i) && is_row_in_range t fs (i + 1)
+-- the fields of a row, from a place of the line on: their numbers, and none where one is out of its range
+unfoldable pub row_words : List ℕ → Fields → ℕ → Option (List ℕ)
+row_words [] fs i = Some []
+row_words (c ∷ t) fs i = both_parts (words_of c (number_at fs i)) (row_words t fs (i + 1))
+
+-- whether each field of a row is in its range
+abbrev pub is_row_in_range : List ℕ → Fields → ℕ → Bool
+is_row_in_range row fs i = is_some (row_words row fs i)
 
 -- the 32 numbers of a call
 abbrev pub words : Shape ℕ Words
@@ -109,19 +111,18 @@ words =
 
 -- a call's number, and nothing read
 abbrev pub begun : ℕ → Asked
-begun n = record { words = packed words (n ∷ []); end = 0; fits = true }
+begun n = record { words = packed words (n ∷ []); end = 0 }
+
+abbrev pub read_behind : Asked → ℕ → List ℕ → Asked
+read_behind asked end l = record { words = foldl (pushed_within words) asked.words l; end = end }
 
 -- the numbers of a row behind those so far; `end` is the place behind the row's last field
-unfoldable pub with_row : Asked → List ℕ → Fields → ℕ → Asked
-with_row asked row fs i = record {
-  words = foldl (pushed_within words) asked.words (row_words row fs i);
-  end = i + length row;
-  fits = asked.fits && is_row_in_range row fs i;
-}
+unfoldable pub with_row : Asked → List ℕ → Fields → ℕ → Option Asked
+with_row asked row fs i = option_map (read_behind asked (i + length row)) (row_words row fs i)
 
 -- a call by its row alone, and with another row behind it
-abbrev pub asked_row : ℕ → Fields → Asked
+abbrev pub asked_row : ℕ → Fields → Option Asked
 asked_row n fs = with_row (begun n) (row_of n) fs 0
 
-abbrev pub asked_rows : ℕ → ℕ → ℕ → Fields → Asked
-asked_rows n behind i fs = with_row (asked_row n fs) (row_of behind) fs i
+abbrev pub asked_rows : ℕ → ℕ → ℕ → Fields → Option Asked
+asked_rows n behind i fs = option_and_then (λ asked. with_row asked (row_of behind) fs i) (asked_row n fs)

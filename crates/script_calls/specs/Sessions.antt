@@ -1,53 +1,63 @@
--- The script's own calls: digests, a new registry, a new router, dumps.
-use Rattle.std.specs.Prelude.{ℕ, ◌&&◌}
+-- The script's own calls: digests, a new registry, a new router, dumps. None where a line has another number of fields,
+-- or one out of its range.
+use Rattle.std.specs.Prelude.{ℕ, cond, Option, None, Some}
+use Rattle.std.specs.Option.{option_map, option_and_then}
+use Rattle.composition_state.specs.declared.registry.CompositionLimits.{CompositionLimits}
+use Rattle.handles.specs.declared.GenerationalHandle.{GenerationalHandle}
 use Rattle.script.specs.declared.line.Fields.{Fields}
 use Rattle.script.specs.declared.verb.SessionVerb.{SessionVerb}
 use Rattle.script.specs.declared.verb.SessionVerb.TheVariants as verb
 use Rattle.script_calls.specs.Groups.{has, flag_at, u32_at, u64_at, handle_at, limits_at}
+use Rattle.script_calls.specs.declared.script_call.SessionCall.{SessionCall}
 use Rattle.script_calls.specs.declared.script_call.SessionCall.TheVariants.{Digest, New, Router, State, RouterState}
-use Rattle.script_calls.specs.declared.sessions.AskedSession.{AskedSession}
-use Rattle.script_calls.specs.declared.sessions.StartField.{StartField}
+use Rattle.script_calls.specs.declared.script_call.Start.{Start}
 
 -- f: whether the digests stand
-abbrev pub digest_in : Fields → AskedSession
-digest_in fs = record { call = Digest (flag_at fs 0).value; fits = has fs 1 && (flag_at fs 0).fits }
+abbrev pub digest_in : Fields → Option SessionCall
+digest_in fs = cond (has fs 1) (option_map Digest (flag_at fs 0)) None
+
+abbrev start_of : ℕ → ℕ → GenerationalHandle → ℕ → CompositionLimits → Start
+start_of revision generation session epoch limits = record {
+  session = session;
+  session_epoch = epoch;
+  limits = limits;
+  first_revision = revision;
+  first_generation = generation;
+}
 
 -- session, epoch, limits
-unfoldable pub start_at : Fields → ℕ → ℕ → StartField
-start_at fs revision generation = record {
-  given =
-      record {
-        session = (handle_at fs 0).handle;
-        session_epoch = (u64_at fs 2).value;
-        limits = (limits_at fs 3).limits;
-        first_revision = revision;
-        first_generation = generation;
-      };
-  fits = (handle_at fs 0).fits && ((u64_at fs 2).fits && (limits_at fs 3).fits);
-}
+unfoldable pub start_at : Fields → ℕ → ℕ → Option Start
+start_at fs revision generation =
+    option_and_then
+    (λ session. option_and_then (λ epoch. option_map (start_of revision generation session epoch) (limits_at fs 3)) (u64_at fs 2))
+    (handle_at fs 0)
 
 -- a start at revision 0 and generation 1
-abbrev pub new_in : Fields → AskedSession
-new_in fs = record { call = New (start_at fs 0 1).given; fits = has fs 8 && (start_at fs 0 1).fits }
+abbrev pub new_in : Fields → Option SessionCall
+new_in fs = cond (has fs 8) (option_map New (start_at fs 0 1)) None
 
 -- a start, then its first revision and its first generation
-unfoldable pub new_at_in : Fields → AskedSession
-new_at_in fs = record {
-  call = New (start_at fs (u64_at fs 8).value (u32_at fs 9).value).given;
-  fits =
-      has fs 10 && ((start_at fs (u64_at fs 8).value (u32_at fs 9).value).fits && ((u64_at fs 8).fits
-      && (u32_at fs 9).fits));
-}
+unfoldable pub new_at_in : Fields → Option SessionCall
+new_at_in fs =
+    cond (has fs 10)
+    (option_and_then
+    (λ revision. option_and_then (λ generation. option_map New (start_at fs revision generation)) (u32_at fs 9))
+    (u64_at fs 8))
+    None
 
 -- the limit of a new router
-abbrev pub router_in : Fields → AskedSession
-router_in fs = record { call = Router (u64_at fs 0).value; fits = has fs 1 && (u64_at fs 0).fits }
+abbrev pub router_in : Fields → Option SessionCall
+router_in fs = cond (has fs 1) (option_map Router (u64_at fs 0)) None
 
--- each verb with its fields; a dump has none
-abbrev pub session_in : SessionVerb → Fields → AskedSession
+-- a dump has no fields
+abbrev pub dump_in : SessionCall → Fields → Option SessionCall
+dump_in call fs = cond (has fs 0) (Some call) None
+
+-- each verb with its fields
+abbrev pub session_in : SessionVerb → Fields → Option SessionCall
 session_in verb.Digest fs = digest_in fs
 session_in verb.New fs = new_in fs
 session_in verb.NewAt fs = new_at_in fs
 session_in verb.Router fs = router_in fs
-session_in verb.State fs = record { call = State; fits = has fs 0 }
-session_in verb.RouterState fs = record { call = RouterState; fits = has fs 0 }
+session_in verb.State fs = dump_in State fs
+session_in verb.RouterState fs = dump_in RouterState fs

@@ -3,8 +3,8 @@
 #![tactic(auto)]
 
 pub mod groups;
-pub mod line_lists;
 pub mod list_fields;
+pub mod lists_beside;
 pub mod read;
 pub mod rows;
 pub mod script_call;

@@ -1,15 +1,19 @@
 // The call that a line is, by its verb: the line's numbers are read as a host's.
-ghost use Rattle.std.specs.Prelude.{◌||◌, ◌≤◌, ◌≡◌};
-ghost use Rattle.script_calls.specs.Calls.{panel_number, input_number, close_number, read_number, step_if, row_call, register_call, has_hits, own_place, arbitrate_call, without_button, event_call, route_call, router_call, step_call, session_if, call_of};
+
+#![tactic(auto, unfolding(crate::specs::Calls::step_of, crate::specs::Calls::row_call, crate::specs::Calls::register_call, crate::specs::Calls::arbitrate_call, crate::specs::Calls::without_button, crate::specs::Calls::event_call, crate::specs::Calls::route_call))]
+
+ghost use Rattle.std.specs.Prelude.{◌≤◌, ◌≡◌};
+ghost use Rattle.script_calls.specs.Calls.{panel_number, input_number, close_number, read_number, step_of, row_call, register_call, has_hits, own_place, arbitrate_call, without_button, event_call, route_call, router_call, step_call, call_of};
 
 use crate::list_fields::{hits_field, registrations_field};
+use crate::lists_beside::{no_lists, with_hits, with_registrations};
 use crate::rows::{Asked, asked_row, asked_rows, is_row_in_range};
 use crate::script_call::ScriptCall;
-use crate::sessions::{AskedSession, asked_session};
+use crate::sessions::asked_session;
 use call_forms::call::is_form;
 use call_numbers::call::call_at;
-use lists::both;
-use script::fields::{as_at_most, as_u8, field};
+use calls::call::Lists;
+use script::fields::{FieldType, as_at_most, field};
 use script::line::{Fields, Line};
 use script::number::Number;
 use script::verb::{CloseVerb, InputVerb, PanelVerb, ReadVerb, RouterVerb, StepVerb, Verb};
@@ -72,113 +76,104 @@ fn read_number(verb: ReadVerb) -> u8
     }
 }
 
-// The call of the numbers, if the line is as it asks and they are what the call is written as.
-fn step_if(fits: bool, asked: Asked) -> ScriptCall
-    ensures { result ≡ step_if fits asked }
+// The call of the numbers, if they are what it is written as.
+fn step_of(asked: Asked, lists: Lists) -> Option<ScriptCall>
+    ensures { result ≡ step_of lists asked }
 {
-    let words = asked.words;
-    let items = words.items;
-    if both(fits, both(asked.fits, is_form(items))) {
-        return ScriptCall::Step(call_at(items));
-    }
-    ScriptCall::NoCall
+    let words = asked.words.items;
+    is_form(words).then_some(ScriptCall::Step(call_at(words), lists))
 }
 
-fn row_call(number: u8, fields: Fields) -> ScriptCall
+fn row_call(number: u8, fields: Fields) -> Option<ScriptCall>
     ensures { result ≡ row_call number fields }
 {
-    let asked = asked_row(number, fields);
-    step_if(fields.count == asked.end, asked)
+    let asked = asked_row(number, fields)?;
+    if fields.count != asked.end {
+        return None;
+    }
+    step_of(asked, no_lists())
 }
 
-// The list stands beside the call, in `read_lists`.
-fn register_call(fields: Fields) -> ScriptCall
+// The registrations stand beside the call. A count over 64 stands, and only the first 64 are kept.
+fn register_call(fields: Fields) -> Option<ScriptCall>
     ensures { result ≡ register_call fields }
 {
-    let list = registrations_field(fields, 3);
-    let expected = 4 + 3 * list.len;
-    let fits = both(fields.count == expected, list.fits);
-    step_if(fits, asked_row(17, fields))
-}
-
-fn either(a: bool, b: bool) -> bool
-    ensures { result ≡ (a || b) }
-{
-    if a { true } else { b }
+    let list = registrations_field(fields, 3)?;
+    if fields.count != 4 + 3 * list.len {
+        return None;
+    }
+    step_of(asked_row(17, fields)?, with_registrations(list))
 }
 
 fn has_hits(kind: u8) -> bool
     ensures { result ≡ has_hits kind }
 {
-    either(kind == 1, kind == 3)
+    kind == 1 || kind == 3
 }
 
 // Where the fields of a kind's own stand: the mask, the pointer, or the optional handle.
 fn own_place(kind: u8) -> u8
     ensures { result ≡ own_place kind }
 {
-    if kind == 10 {
-        return 9;
+    match kind {
+        10 => 9,
+        2 | 3 => 3,
+        _ => 6,
     }
-    if either(kind == 2, kind == 3) {
-        return 3;
-    }
-    6
 }
 
-// The hits stand beside the call, in `read_lists`.
-fn arbitrate_call(fields: Fields) -> ScriptCall
+// The hits stand beside the call. A count over 16 stands, and only the first 16 are kept.
+fn arbitrate_call(fields: Fields) -> Option<ScriptCall>
     ensures { result ≡ arbitrate_call fields }
 {
-    let read = as_at_most(field(fields, 2), 10);
-    let kind = read.value as u8;
-    let list = hits_field(fields, 10);
-    let hits = list.hits;
-    let expected = 11 + 2 * hits.len;
-    let listed = either(has_hits(kind), hits.len == 0);
-    let ranges = both(list.fits, both(is_row_in_range(58, fields), listed));
-    let fits = both(fields.count == expected, ranges);
-    step_if(fits, asked_rows(20, 47 + kind, own_place(kind), fields))
+    let kind = as_at_most(field(fields, 2), 10)? as u8;
+    let hits = hits_field(fields, 10)?;
+    let listed = has_hits(kind) || hits.len == 0;
+    if fields.count != 11 + 2 * hits.len || !is_row_in_range(58, fields) || !listed {
+        return None;
+    }
+    step_of(
+        asked_rows(20, 47 + kind, own_place(kind), fields)?,
+        with_hits(hits),
+    )
 }
 
 // The number of a button that did not change is left out.
 fn without_button(fields: Fields) -> Fields
     ensures { result ≡ without_button fields }
 {
-    let changed = field(fields, 22);
-    let button = as_u8(field(fields, 23));
-    if both(changed.magnitude == 0, button.fits) {
-        let mut next = fields;
+    let mut next = fields;
+    if field(fields, 22).magnitude == 0 && u8::from_field(field(fields, 23)).is_some() {
         next.numbers[23] = Number {
             negative: false,
             magnitude: 0,
         };
-        return next;
     }
-    fields
+    next
 }
 
-fn event_call(kind: u8, fields: Fields) -> ScriptCall
+fn event_call(kind: u8, fields: Fields) -> Option<ScriptCall>
     requires { kind ≤ 9 }
     ensures { result ≡ event_call kind fields }
 {
-    let asked = asked_rows(23, 37 + kind, 12, fields);
-    step_if(fields.count == asked.end, asked)
+    let asked = asked_rows(23, 37 + kind, 12, fields)?;
+    if fields.count != asked.end {
+        return None;
+    }
+    step_of(asked, no_lists())
 }
 
 // The payload's row is that of its kind.
-fn route_call(fields: Fields) -> ScriptCall
+fn route_call(fields: Fields) -> Option<ScriptCall>
     ensures { result ≡ route_call fields }
 {
-    let read = as_at_most(field(fields, 11), 9);
-    let kind = read.value as u8;
-    if kind == 0 {
-        return event_call(0, without_button(fields));
+    match as_at_most(field(fields, 11), 9)? as u8 {
+        0 => event_call(0, without_button(fields)),
+        kind => event_call(kind, fields),
     }
-    event_call(kind, fields)
 }
 
-fn router_call(verb: RouterVerb, fields: Fields) -> ScriptCall
+fn router_call(verb: RouterVerb, fields: Fields) -> Option<ScriptCall>
     ensures { result ≡ router_call verb fields }
 {
     match verb {
@@ -188,7 +183,7 @@ fn router_call(verb: RouterVerb, fields: Fields) -> ScriptCall
     }
 }
 
-fn step_call(verb: StepVerb, fields: Fields) -> ScriptCall
+fn step_call(verb: StepVerb, fields: Fields) -> Option<ScriptCall>
     ensures { result ≡ step_call verb fields }
 {
     match verb {
@@ -203,31 +198,15 @@ fn step_call(verb: StepVerb, fields: Fields) -> ScriptCall
     }
 }
 
-fn session_if(asked: AskedSession) -> ScriptCall
-    ensures { result ≡ session_if asked }
+// The call of a line whose fields are as its verb asks.
+pub fn read_call(line: Line) -> Option<ScriptCall>
+    ensures { result ≡ call_of line }
 {
-    if asked.fits {
-        let call = asked.call;
-        return ScriptCall::Session(call);
+    match line.verb {
+        Verb::Session(session) => {
+            let call = asked_session(session, line.fields)?;
+            Some(ScriptCall::Session(call))
+        }
+        Verb::Step(step) => step_call(step, line.fields),
     }
-    ScriptCall::NoCall
-}
-
-fn read_fields(verb: Verb, fields: Fields) -> ScriptCall
-    ensures { result ≡ call_of verb fields }
-{
-    match verb {
-        Verb::Unknown => ScriptCall::NoCall,
-        Verb::Session(session) => session_if(asked_session(session, fields)),
-        Verb::Step(step) => step_call(step, fields),
-    }
-}
-
-// The lists of an arbitration and of a set of registrations stand beside the call, in `read_lists`.
-pub fn read_call(line: Line) -> ScriptCall
-    ensures { result ≡ call_of line.verb line.fields }
-{
-    let verb = line.verb;
-    let fields = line.fields;
-    read_fields(verb, fields)
 }

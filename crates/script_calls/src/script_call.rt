@@ -1,5 +1,5 @@
 // What a line of a script asks for.
-use calls::call::Call;
+use calls::call::{Call, Lists};
 use composition_state::registry::CompositionLimits;
 use handles::GenerationalHandle;
 
@@ -23,10 +23,9 @@ pub enum SessionCall {
     RouterState,
 }
 
-// `NoCall` stands for a line that is no call, and `Step` for a call on the registry and the router that stand.
+// `Step` is a call on the registry and the router that stand, with the lists beside it.
 #[derive(Clone, Copy)]
 pub enum ScriptCall {
-    NoCall,
     Session(SessionCall),
-    Step(Call),
+    Step(Call, Lists),
 }

@@ -1,94 +1,75 @@
 // The script's own calls: digests, a new registry, a new router, dumps.
-ghost use Rattle.std.specs.Prelude.{◌≡◌};
-ghost use Rattle.script_calls.specs.Sessions.{start_at, digest_in, new_in, new_at_in, router_in, session_in};
 
-use crate::groups::{flag_field, handle_field, limits_field, u32_field, u64_field};
+#![tactic(auto, unfolding(crate::specs::Sessions::start_at, crate::specs::Sessions::new_at_in))]
+
+ghost use Rattle.std.specs.Prelude.{◌≡◌};
+ghost use Rattle.script_calls.specs.Sessions.{start_at, digest_in, new_in, new_at_in, router_in, dump_in, session_in};
+
+use crate::groups::{handle_field, limits_field, read_field};
 use crate::script_call::{SessionCall, Start};
-use lists::both;
 use script::line::Fields;
 use script::verb::SessionVerb;
 
-#[derive(Clone, Copy)]
-pub struct StartField {
-    pub given: Start,
-    pub fits: bool,
-}
-
-// `fits` says that the line has the call's number of fields, each in its range.
-#[derive(Clone, Copy)]
-pub struct AskedSession {
-    pub call: SessionCall,
-    pub fits: bool,
-}
-
-fn digest(fields: Fields) -> AskedSession
+fn digest(fields: Fields) -> Option<SessionCall>
     ensures { result ≡ digest_in fields }
 {
-    let on = flag_field(fields, 0);
-    AskedSession {
-        call: SessionCall::Digest(on.value),
-        fits: both(fields.count == 1, on.fits),
+    if fields.count != 1 {
+        return None;
     }
+    Some(SessionCall::Digest(read_field(fields, 0)?))
 }
 
 // Session, epoch, limits: 8 fields.
-fn start_field(fields: Fields, first_revision: u64, first_generation: u32) -> StartField
+fn start_field(fields: Fields, first_revision: u64, first_generation: u32) -> Option<Start>
     ensures { result ≡ start_at fields first_revision first_generation }
 {
-    let owner = handle_field(fields, 0);
-    let epoch = u64_field(fields, 2);
-    let limited = limits_field(fields, 3);
-    let session = owner.handle;
-    let limits = limited.limits;
-    let given = Start {
-        session,
-        session_epoch: epoch.value,
-        limits,
+    Some(Start {
+        session: handle_field(fields, 0)?,
+        session_epoch: read_field(fields, 2)?,
+        limits: limits_field(fields, 3)?,
         first_revision,
         first_generation,
-    };
-    StartField {
-        given,
-        fits: both(owner.fits, both(epoch.fits, limited.fits)),
-    }
+    })
 }
 
-fn new_call(fields: Fields) -> AskedSession
+fn new_call(fields: Fields) -> Option<SessionCall>
     ensures { result ≡ new_in fields }
 {
-    let start = start_field(fields, 0, 1);
-    let given = start.given;
-    AskedSession {
-        call: SessionCall::New(given),
-        fits: both(fields.count == 8, start.fits),
+    if fields.count != 8 {
+        return None;
     }
+    Some(SessionCall::New(start_field(fields, 0, 1)?))
 }
 
-fn new_at_call(fields: Fields) -> AskedSession
+fn new_at_call(fields: Fields) -> Option<SessionCall>
     ensures { result ≡ new_at_in fields }
 {
-    let revision = u64_field(fields, 8);
-    let generation = u32_field(fields, 9);
-    let start = start_field(fields, revision.value, generation.value);
-    let given = start.given;
-    let fits = both(start.fits, both(revision.fits, generation.fits));
-    AskedSession {
-        call: SessionCall::New(given),
-        fits: both(fields.count == 10, fits),
+    if fields.count != 10 {
+        return None;
     }
+    let revision = read_field(fields, 8)?;
+    let generation = read_field(fields, 9)?;
+    Some(SessionCall::New(start_field(fields, revision, generation)?))
 }
 
-fn router(fields: Fields) -> AskedSession
+fn router(fields: Fields) -> Option<SessionCall>
     ensures { result ≡ router_in fields }
 {
-    let limit = u64_field(fields, 0);
-    AskedSession {
-        call: SessionCall::Router(limit.value),
-        fits: both(fields.count == 1, limit.fits),
+    if fields.count != 1 {
+        return None;
     }
+    Some(SessionCall::Router(read_field(fields, 0)?))
 }
 
-pub fn asked_session(verb: SessionVerb, fields: Fields) -> AskedSession
+// A dump has no fields.
+fn dump(call: SessionCall, fields: Fields) -> Option<SessionCall>
+    ensures { result ≡ dump_in call fields }
+{
+    (fields.count == 0).then_some(call)
+}
+
+// The call of a line with the call's number of fields, each in its range.
+pub fn asked_session(verb: SessionVerb, fields: Fields) -> Option<SessionCall>
     ensures { result ≡ session_in verb fields }
 {
     match verb {
@@ -96,13 +77,7 @@ pub fn asked_session(verb: SessionVerb, fields: Fields) -> AskedSession
         SessionVerb::New => new_call(fields),
         SessionVerb::NewAt => new_at_call(fields),
         SessionVerb::Router => router(fields),
-        SessionVerb::State => AskedSession {
-            call: SessionCall::State,
-            fits: fields.count == 0,
-        },
-        SessionVerb::RouterState => AskedSession {
-            call: SessionCall::RouterState,
-            fits: fields.count == 0,
-        },
+        SessionVerb::State => dump(SessionCall::State, fields),
+        SessionVerb::RouterState => dump(SessionCall::RouterState, fields),
     }
 }

@@ -1,25 +1,24 @@
--- `hits_from` meets its contract: after k turns its table and its test are those of k handles.
-use mathlib.Core.Path.{◌≡◌, refl}
-use native.Mathlib.Omega.{arith}
-use Rattle.lists.specs.Below.{all_below}
+-- `hits_from` meets its contract: the entries so far are read.
+use Rattle.std.proofs.Common.{sym, ap, ◌∙◌, ◌≡◌, arith}
+use Rattle.std.specs.Prelude.{Some}
 use Rattle.lists.specs.Tables.{packed}
-use Rattle.script_calls.specs.ListFields.{hits_from, handles_from, below, placed}
-use Rattle.script_calls.proofs.ListFieldLaws.{hits_next, fits_next}
+use Rattle.script_calls.specs.ListFields.{placed, all_read, hits_from}
+use Rattle.script_calls.proofs.ListLaws.{hits_more, hits_none}
 use Rattle.script_calls.proofs.list_fields.hits_from.Goals as goal
 
 pub loop-k-init : goal.loop-k-init
-unfolding hits_from handles_from below placed packed all_below
-loop-k-init c = (omega arith, c.new-hits.ensures, refl)
+unfolding packed placed all_read hits_from
+loop-k-init c = (ap Some (sym c.new-hits.ensures), ap (λ t. t.len) c.new-hits.ensures)
+
+pub returns-in_err-handle_field : goal.returns-in_err-handle_field
+returns-in_err-handle_field c = c.from_residual.ensures ∙ sym (hits_none c.args.fields c.args.i c.loop-k.k c.args.n (sym c.in_err-handle_field.ensures) c.loop-k-test.true)
 
 pub loop-k-preserved : goal.loop-k-preserved
-loop-k-preserved c = (
-  omega arith,
-  rw (c.push_hit-hits.ensures, c.handle_field-read.ensures) (hits_next c.args.fields c.args.i c.loop-k.k c.loop-k.hits c.loop-k.invariant.1),
-  rw (c.both-fits.ensures, c.handle_field-read.ensures) (fits_next c.args.fields c.args.i c.loop-k.k c.loop-k.fits c.loop-k.invariant.2),
-)
+loop-k-preserved c =
+    let more = hits_more c.args.fields c.args.i c.loop-k.k c.loop-k.hits c.in_ok-handle_field.field-0 c.loop-k.invariant.0 c.loop-k.invariant.1 (sym c.in_ok-handle_field.ensures) in
+    (more ∙ ap Some (sym c.push_hit-hits.ensures), ap (λ t. t.len) c.push_hit-hits.ensures)
 
 pub returns : goal.returns
-unfolding hits_from
 returns c =
-    let k-is : c.loop-k.k ≡ c.args.n = omega arith in
-    rw (c.loop-k.invariant.1, c.loop-k.invariant.2, k-is)
+    let all : c.loop-k.k ≡ c.args.n = omega arith in
+    sym c.loop-k.invariant.0 ∙ ap (hits_from c.args.fields c.args.i) all

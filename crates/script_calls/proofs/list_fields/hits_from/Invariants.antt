@@ -1,11 +1,8 @@
--- `hits_from` meets its contract: after k turns its table and its test are those of k handles.
-use Prim.Native.Nat.{◌≤◌, ◌-◌}
-use mathlib.Core.Path.{◌≡◌}
+-- `hits_from` meets its contract: the entries so far are read.
+use Rattle.std.proofs.Common.{◌≡◌}
+use Rattle.std.specs.Prelude.{Some}
 use Rattle.script_calls.specs.ListFields.{hits_from}
 use Rattle.script_calls.proofs.list_fields.hits_from.Given as goal
 
 abbrev pub invariant-loop-k : goal.invariant-loop-k
-invariant-loop-k l = (l.k ≤ l.n) × (l.hits ≡ (hits_from l.fields l.i l.k).hits) × (l.fits ≡ (hits_from l.fields l.i l.k).fits)
-
-abbrev pub decreases-loop-k : goal.decreases-loop-k
-decreases-loop-k l = l.n - l.k
+invariant-loop-k l = (hits_from l.fields l.i l.k ≡ Some l.hits) × (l.hits.len ≡ l.k)

@@ -1,5 +1,5 @@
--- The claims about the two lists hold: they are proved in `ListClaimLaws.antt`.
-use Rattle.script_calls.proofs.ListClaimLaws.{claims}
+-- `list_claims` meets its contract: the claims are proved as laws.
+use Rattle.script_calls.proofs.ListLaws.{claims}
 use Rattle.script_calls.proofs.list_fields.list_claims.Goals as goal
 
 pub returns : goal.returns

@@ -1,9 +1,0 @@
--- `u32_field` meets its contract: it is made of the fields that it reads.
-use Rattle.script_calls.proofs.groups.u32_field.Goals as goal
-
-pub returns : goal.returns
-returns c =
-    rw (
-      c.as_u32.ensures,
-      c.field.ensures,
-    )

@@ -1,9 +1,0 @@
--- `router` meets its contract: it is made of the fields that it reads.
-use Rattle.script_calls.proofs.sessions.router.Goals as goal
-
-pub returns : goal.returns
-returns c =
-    rw (
-      c.both.ensures,
-      c.u64_field-limit.ensures,
-    )
