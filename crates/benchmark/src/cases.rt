@@ -22,14 +22,14 @@ pub fn named(word: &[u8]) -> Case {
         b"move_3 move_16 press_3 press_16 hit_16 disconnect_presses disconnect_captures panel",
         word,
     ) {
-        0 => Case::Move3,
-        1 => Case::Move16,
-        2 => Case::Press3,
-        3 => Case::Press16,
-        4 => Case::Hit16,
-        5 => Case::DisconnectPresses,
-        6 => Case::DisconnectCaptures,
-        7 => Case::Panel,
+        Some(0) => Case::Move3,
+        Some(1) => Case::Move16,
+        Some(2) => Case::Press3,
+        Some(3) => Case::Press16,
+        Some(4) => Case::Hit16,
+        Some(5) => Case::DisconnectPresses,
+        Some(6) => Case::DisconnectCaptures,
+        Some(7) => Case::Panel,
         _ => Case::Unknown,
     }
 }

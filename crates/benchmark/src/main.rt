@@ -27,9 +27,10 @@ fn word_at<'a>(rt: &impl Env, i: usize, word: &'a mut [u8]) -> &'a [u8] {
 // A word that is no number asks for no turns.
 fn turns_asked(rt: &impl Env) -> u64 {
     let mut word = [0u8; 20];
-    let reading = script::number::read_number(word_at(rt, 2, &mut word));
-    let number = reading.number;
-    number.magnitude
+    match script::number::read_number(word_at(rt, 2, &mut word)) {
+        Some(number) => number.magnitude,
+        None => 0,
+    }
 }
 
 fn case_asked(rt: &impl Env) -> cases::Case {

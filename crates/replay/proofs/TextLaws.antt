@@ -8,21 +8,20 @@ use mir.Val.{Val}
 use denote.Laws.{Is}
 use denote.Struct.Laws as LL
 use Rattle.lists.proofs.ListLaws.{by_test}
-use Rattle.calls.specs.declared.call.Lists.{Lists}
 use Rattle.counter.specs.declared.step.Counter.{Counter}
 use Rattle.script.specs.Lines.{line_of, is_skipped}
 use Rattle.script.specs.declared.line.Line.{Line}
-use Rattle.script_calls.specs.Calls.{call_of}
-use Rattle.script_calls.specs.LineLists.{lists_beside}
+use Rattle.script.specs.declared.fault.LineFault.{LineFault}
+use Rattle.std.specs.Prelude.{Option, None, Some, Result}
 use Rattle.script_calls.specs.declared.script_call.ScriptCall.{ScriptCall}
-use Rattle.script_calls.specs.declared.script_call.ScriptCall.TheVariants.{NoCall, Session as OfSession, Step}
+use Rattle.script_calls.specs.declared.script_call.ScriptCall.TheVariants.{Session as OfSession, Step}
 use Rattle.script_calls.specs.declared.script_call.SessionCall.{SessionCall}
 use Rattle.script_calls.specs.declared.script_call.SessionCall.TheVariants.{Digest, New, Router, State, RouterState}
 use Rattle.answer_columns.specs.Pieces.{text_then}
 use Rattle.line_lengths.specs.Lengths.{StateLengths}
 use Rattle.line_lengths.proofs.LineLaws.{claims}
 use Rattle.line_lengths.proofs.TypeLaws.{state_lengths}
-use Rattle.replay.specs.Lines.{answered_line}
+use Rattle.replay.specs.Lines.{asked_by, answered_line}
 use Rattle.replay.specs.Sessions.{next_call, finished, answered_step, answered_plain, answered_no_call, answered_session, answered_as}
 use Rattle.replay.specs.Starts.{started_registry, started_router}
 use Rattle.replay.specs.declared.session.Answered.{Answered}
@@ -51,19 +50,17 @@ module _ (calls : ℕ) (shown : Bool) (buf : List ℕ) (room : 524288 ≤ length
   session_whole c x State = claims.state c x calls shown buf room
   session_whole c x RouterState = claims.router_state c x calls c.registry.revision shown buf room
 
-  asked_whole : (c : Counter) → StateLengths c → (asked : ScriptCall) (lists : Lists)
-      → place_in (answered_as calls shown c asked lists buf) ≡ text_then (asked_text calls shown c asked lists) buf
+  asked_whole : (c : Counter) → StateLengths c → (asked : Option ScriptCall)
+      → place_in (answered_as calls shown c asked buf) ≡ text_then (asked_text calls shown c asked) buf
   unfolding answered_as answered_no_call answered_step asked_text finished
-  asked_whole c x NoCall lists = claims.no_call c calls c.registry.revision shown buf room
-  asked_whole c x (OfSession asked) lists = session_whole c x asked
-  asked_whole c x (Step call) lists = claims.answered c x call lists calls shown buf room
+  asked_whole c x None = claims.no_call c calls c.registry.revision shown buf room
+  asked_whole c x (Some (OfSession asked)) = session_whole c x asked
+  asked_whole c x (Some (Step call lists)) = claims.answered c x call lists calls shown buf room
 
-called_whole : (s : Session) → StateLengths s.counter → (line : Line) (buf : List ℕ) → 524288 ≤ length buf
+called_whole : (s : Session) → StateLengths s.counter → (line : Result Line LineFault) (buf : List ℕ) → 524288 ≤ length buf
     → place_in (answered_line s line buf) ≡ text_then (called_text s line) buf
 unfolding answered_line called_text
-called_whole s x line buf room =
-    asked_whole (next_call s.calls) s.are_digests_shown buf room s.counter x (call_of line.verb line.fields)
-    (lists_beside line.verb line.fields)
+called_whole s x line buf room = asked_whole (next_call s.calls) s.are_digests_shown buf room s.counter x (asked_by line)
 
 line_whole : (s : Session) → StateLengths s.counter → (l buf : List ℕ) → 524288 ≤ length buf
     → place_in (line_answered s l buf) ≡ text_then (answer_text s l) buf

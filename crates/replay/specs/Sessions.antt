@@ -1,6 +1,6 @@
 -- The replay format: one line answered, and the session after it. The call count goes on; every line that is not
 -- skipped is a call.
-use Rattle.std.specs.Prelude.{ℕ, ◌+◌, Bool, cond, List, ltb}
+use Rattle.std.specs.Prelude.{ℕ, ◌+◌, Bool, cond, List, ltb, Option, None, Some}
 use Rattle.lists.specs.Numbers.{max_u64}
 use Rattle.answer_columns.specs.Pieces.{put_all}
 use Rattle.answer_line.specs.Line.{answer_taken, plain_pieces, no_call_pieces, state_taken, router_state_taken, end_pieces}
@@ -9,7 +9,7 @@ use Rattle.calls.specs.declared.call.Lists.{Lists}
 use Rattle.counter.specs.declared.step.Counter.{Counter}
 use Rattle.counter.specs.Step.{stepped}
 use Rattle.script_calls.specs.declared.script_call.ScriptCall.{ScriptCall}
-use Rattle.script_calls.specs.declared.script_call.ScriptCall.TheVariants.{NoCall, Session as OfSession, Step}
+use Rattle.script_calls.specs.declared.script_call.ScriptCall.TheVariants.{Session as OfSession, Step}
 use Rattle.script_calls.specs.declared.script_call.SessionCall.{SessionCall}
 use Rattle.script_calls.specs.declared.script_call.SessionCall.TheVariants.{Digest, New, Router, State, RouterState}
 use Rattle.replay.specs.declared.session.Answered.{Answered}
@@ -53,7 +53,7 @@ answered_session calls shown c State buf = finished calls shown c (state_taken c
 answered_session calls shown c RouterState buf =
     finished calls shown c (router_state_taken calls c.registry.revision c.router buf)
 
-unfoldable pub answered_as : ℕ → Bool → Counter → ScriptCall → Lists → List ℕ → List ℕ × Answered
-answered_as calls shown c NoCall lists buf = answered_no_call calls shown c buf
-answered_as calls shown c (OfSession asked) lists buf = answered_session calls shown c asked buf
-answered_as calls shown c (Step call) lists buf = answered_step calls shown c call lists buf
+unfoldable pub answered_as : ℕ → Bool → Counter → Option ScriptCall → List ℕ → List ℕ × Answered
+answered_as calls shown c None buf = answered_no_call calls shown c buf
+answered_as calls shown c (Some (OfSession asked)) buf = answered_session calls shown c asked buf
+answered_as calls shown c (Some (Step call lists)) buf = answered_step calls shown c call lists buf

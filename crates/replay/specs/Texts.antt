@@ -1,14 +1,13 @@
 -- The replay format, Answer line: the whole text that a line of a script is answered with.
-use Rattle.std.specs.Prelude.{ℕ, Bool, cond, List, []}
-use Rattle.calls.specs.declared.call.Lists.{Lists}
+use Rattle.std.specs.Prelude.{ℕ, Bool, cond, List, [], Option, None, Some, Result}
 use Rattle.counter.specs.Step.{stepped}
 use Rattle.counter.specs.declared.step.Counter.{Counter}
 use Rattle.script.specs.Lines.{line_of, is_skipped}
+use Rattle.replay.specs.Lines.{asked_by}
+use Rattle.script.specs.declared.fault.LineFault.{LineFault}
 use Rattle.script.specs.declared.line.Line.{Line}
-use Rattle.script_calls.specs.Calls.{call_of}
-use Rattle.script_calls.specs.LineLists.{lists_beside}
 use Rattle.script_calls.specs.declared.script_call.ScriptCall.{ScriptCall}
-use Rattle.script_calls.specs.declared.script_call.ScriptCall.TheVariants.{NoCall, Session as OfSession, Step}
+use Rattle.script_calls.specs.declared.script_call.ScriptCall.TheVariants.{Session as OfSession, Step}
 use Rattle.script_calls.specs.declared.script_call.SessionCall.{SessionCall}
 use Rattle.script_calls.specs.declared.script_call.SessionCall.TheVariants.{Digest, New, Router, State, RouterState}
 use Rattle.answer_line.specs.Line.{plain_pieces, no_call_pieces}
@@ -35,17 +34,15 @@ session_text calls shown c State = line_text (state_pieces calls c.registry) c s
 session_text calls shown c RouterState = line_text (router_state_pieces calls c.registry.revision c.router) c shown
 
 -- a line that is no call, a call of the session, and one on the counter, which goes through `step`
-unfoldable pub asked_text : ℕ → Bool → Counter → ScriptCall → Lists → List ℕ
-asked_text calls shown c NoCall lists = line_text (no_call_pieces calls c.registry.revision) c shown
-asked_text calls shown c (OfSession asked) lists = session_text calls shown c asked
-asked_text calls shown c (Step call) lists =
+unfoldable pub asked_text : ℕ → Bool → Counter → Option ScriptCall → List ℕ
+asked_text calls shown c None = line_text (no_call_pieces calls c.registry.revision) c shown
+asked_text calls shown c (Some (OfSession asked)) = session_text calls shown c asked
+asked_text calls shown c (Some (Step call lists)) =
     let x = stepped c call lists in
     line_text (answer_pieces calls call x.answer x.counter) x.counter shown
 
-unfoldable pub called_text : Session → Line → List ℕ
-called_text s line =
-    asked_text (next_call s.calls) s.are_digests_shown s.counter (call_of line.verb line.fields)
-    (lists_beside line.verb line.fields)
+unfoldable pub called_text : Session → Result Line LineFault → List ℕ
+called_text s line = asked_text (next_call s.calls) s.are_digests_shown s.counter (asked_by line)
 
 -- the text that the bytes of a line are answered with: none where the line is skipped
 unfoldable pub answer_text : Session → List ℕ → List ℕ

@@ -16,15 +16,14 @@ use crate::starts::first_counter;
 use line_input::{is_line_skipped, parse_line, take_line};
 
 // After a turn: the session, how many bytes of the next line are there, where the chunk goes on, and how many bytes of
-// an answer stand at the front of the buffer; whether a line ended, and how many bytes of it are in the line's buffer.
+// an answer stand at the front of the buffer; where a line ended, how many bytes of it are in the line's buffer.
 #[derive(Clone, Copy)]
 pub struct Turn {
     pub session: Session,
     pub len: usize,
     pub next: usize,
     pub at: usize,
-    pub has_ended: bool,
-    pub ended_len: usize,
+    pub ended: Option<usize>,
 }
 
 // Nothing is answered yet, and no digests are shown.
@@ -72,14 +71,12 @@ pub fn next_answer(
     let taken = take_line(line, len, chunk, from);
     if taken.complete {
         let answered = answer_bytes(session, line, taken.len, out);
-        let after = answered.session;
         return Turn {
-            session: after,
+            session: answered.session,
             len: 0,
             next: taken.next,
             at: answered.at,
-            has_ended: true,
-            ended_len: taken.len,
+            ended: Some(taken.len),
         };
     }
     Turn {
@@ -87,8 +84,7 @@ pub fn next_answer(
         len: taken.len,
         next: taken.next,
         at: 0,
-        has_ended: false,
-        ended_len: 0,
+        ended: None,
     }
 }
 

@@ -13,7 +13,6 @@ ghost use Rattle.replay.specs.Turns.{Held, serving_of, held_of, held_in, chunk_s
 
 use crate::lines::{answer_bytes, first_session, next_answer};
 use crate::session::Session;
-use script::words::same_bytes;
 use std::env::{Env, FillError};
 use std::io::{self, Eprint, Input, Read};
 
@@ -41,25 +40,21 @@ struct Served {
 
 // The number of the next line; it stays at its end.
 fn next_line(lines: u64) -> u64 {
-    if lines < u64::MAX {
-        return lines + 1;
-    }
-    lines
+    lines.saturating_add(1)
 }
 
-// Writes the answer that stands in the first `at` bytes of a buffer, for a line of `len` bytes that has ended.
+// Writes the answer that stands in the first `at` bytes of a buffer, where a line of so many bytes has ended.
 fn write_answer(
     rt: &(impl Print + Eprint),
     told: Told,
-    has_ended: bool,
+    ended: Option<usize>,
     out: &[u8],
     at: usize,
     line: &[u8],
-    len: usize,
 ) -> Told {
-    if has_ended {} else {
+    let Some(len) = ended else {
         return told;
-    }
+    };
     let lines = next_line(told.lines);
     if at == 0 {
         return Told {
@@ -70,15 +65,9 @@ fn write_answer(
     if messages::is_no_call(out) {
         messages::tell_fault(rt, lines, line, len);
     }
-    if messages::write_front(rt, out, at) {
-        return Told {
-            lines,
-            is_written: told.is_written,
-        };
-    }
     Told {
         lines,
-        is_written: false,
+        is_written: messages::write_front(rt, out, at) && told.is_written,
     }
 }
 
@@ -101,7 +90,7 @@ fn answer_chunk(
     let mut at = 0;
     while at < chunk.len() {
         let turn = next_answer(session, len, line, chunk, at, out);
-        told = write_answer(rt, told, turn.has_ended, out, turn.at, line, turn.ended_len);
+        told = write_answer(rt, told, turn.ended, out, turn.at, line);
         session = turn.session;
         len = turn.len;
         at = turn.next;
@@ -150,24 +139,22 @@ fn first_reading() -> Reading {
     }
 }
 
-// Serves the input to its end. A proved loop has to end, so this one counts its turns down from a number that no run
-// uses up. A last line that no line feed ends is a line too.
+// Serves the input to its end. A proved loop has to end, so this one has a number of turns that no run uses up. A last line that no line feed ends is a line too.
 fn serve(rt: &(impl Input + Print + Eprint), line: &mut [u8], out: &mut [u8])
     requires { 524288 ≤ length out.old }
 {
     let mut input = rt.reader();
     let mut reading = first_reading();
-    let mut is_open = true;
-    let mut turns = u64::MAX;
-    while turns > 0 && is_open {
+    for _ in 0..u64::MAX {
         let served = serve_some(rt, &mut input, reading, line, out);
         reading = served.reading;
-        is_open = served.is_open;
-        turns -= 1;
+        if !served.is_open {
+            break;
+        }
     }
     let last = answer_bytes(reading.session, line, reading.len, out);
-    let told = write_answer(rt, reading.told, true, out, last.at, line, reading.len);
-    if told.is_written {} else {
+    let told = write_answer(rt, reading.told, Some(reading.len), out, last.at, line);
+    if !told.is_written {
         messages::tell_unwritten(rt);
     }
 }
@@ -182,7 +169,7 @@ fn answer_buffer() -> [u8; 524288] {
 fn main(rt: HostRuntime) -> io::Result<()> {
     let mut word = [0u8; 8];
     match rt.arg(1, &mut word) {
-        Ok(n) => return messages::tell_usage(&rt, same_bytes(&word[..n], b"--help")),
+        Ok(n) => return messages::tell_usage(&rt, &word[..n] == b"--help".as_slice()),
         Err(FillError::TooLong) => return messages::tell_usage(&rt, false),
         Err(FillError::NotPresent) => {}
     }

@@ -1,4 +1,7 @@
 // Answers a call of a script: it is made, and its line is written.
+
+#![tactic(auto, unfolding(crate::specs::Sessions::finished, crate::specs::Sessions::answered_step, crate::specs::Sessions::answered_plain, crate::specs::Sessions::answered_no_call, crate::specs::Sessions::answered_session, crate::specs::Sessions::answered_as))]
+
 ghost use Rattle.std.specs.Prelude.{ℕ, List, ◌≡◌};
 ghost use Rattle.replay.specs.declared.session.Answered.{Answered};
 ghost use Rattle.script_calls.specs.declared.script_call.SessionCall.TheVariants.{State, RouterState};
@@ -154,15 +157,18 @@ pub fn answer_call(
     calls: u64,
     are_digests_shown: bool,
     counter: Counter,
-    asked: ScriptCall,
-    lists: Lists,
+    asked: Option<ScriptCall>,
 ) -> Answered
     ensures { ◌≡◌ {A = List ℕ × Answered} (out.new, result)
-        (answered_as calls are_digests_shown counter asked lists out.old) }
+        (answered_as calls are_digests_shown counter asked out.old) }
 {
     match asked {
-        ScriptCall::NoCall => answer_no_call(out, calls, are_digests_shown, counter),
-        ScriptCall::Session(own) => answer_session(out, calls, are_digests_shown, counter, own),
-        ScriptCall::Step(call) => answer_step(out, calls, are_digests_shown, counter, call, lists),
+        None => answer_no_call(out, calls, are_digests_shown, counter),
+        Some(ScriptCall::Session(own)) => {
+            answer_session(out, calls, are_digests_shown, counter, own)
+        }
+        Some(ScriptCall::Step(call, lists)) => {
+            answer_step(out, calls, are_digests_shown, counter, call, lists)
+        }
     }
 }

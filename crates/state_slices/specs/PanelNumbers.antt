@@ -24,12 +24,12 @@ rect_at b k =
 
 unfoldable pub transform_from : List ℕ → SurfaceTransform
 transform_from b = record {
-  m11_q16 = (signed_of (get_or b 16 0)).value;
-  m12_q16 = (signed_of (get_or b 17 0)).value;
-  m21_q16 = (signed_of (get_or b 18 0)).value;
-  m22_q16 = (signed_of (get_or b 19 0)).value;
-  translate_x_milli = (signed_of (get_or b 20 0)).value;
-  translate_y_milli = (signed_of (get_or b 21 0)).value;
+  m11_q16 = signed_of (get_or b 16 0);
+  m12_q16 = signed_of (get_or b 17 0);
+  m21_q16 = signed_of (get_or b 18 0);
+  m22_q16 = signed_of (get_or b 19 0);
+  translate_x_milli = signed_of (get_or b 20 0);
+  translate_y_milli = signed_of (get_or b 21 0);
 }
 
 unfoldable pub geometry_from : List ℕ → SurfaceGeometry
@@ -46,7 +46,7 @@ panel_from b = record {
   descriptor = record {
     view = handle_of (get_or b 0 0) (get_or b 1 0);
     kind = surface_kind_of (get_or b 2 0);
-    z_order = (signed_of (get_or b 3 0)).value;
+    z_order = signed_of (get_or b 3 0);
     input = policy_of (get_or b 4 0);
     accepts_text = is_one (get_or b 5 0);
     geometry = geometry_from b;

@@ -34,7 +34,7 @@ shortcut_from b = record {
   registration = record {
     class_mask = get_or b 1 0;
     scope = scope_of (get_or b 2 0);
-    priority = (short_of (get_or b 3 0)).value;
+    priority = short_of (get_or b 3 0);
   };
 }
 

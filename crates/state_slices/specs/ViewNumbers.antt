@@ -28,8 +28,8 @@ half_at b k = within 4294967296 (get_or b k 0)
 unfoldable pub metrics_from : List ℕ → ViewMetrics
 metrics_from b = record {
   revision = get_or b 2 0;
-  origin_x_milli = (signed_of (get_or b 3 0)).value;
-  origin_y_milli = (signed_of (get_or b 4 0)).value;
+  origin_x_milli = signed_of (get_or b 3 0);
+  origin_y_milli = signed_of (get_or b 4 0);
   width_milli = half_at b 5;
   height_milli = half_at b 6;
   framebuffer_width = half_at b 7;

@@ -8,8 +8,7 @@ ghost use Rattle.state_slices.specs.PanelNumbers.{rect_at, transform_from, geome
 
 use crate::layout::{PANEL_SIZE, PANELS_START};
 use call_fields::groups::{RectNumbers, handle_of, rect_of};
-use call_fields::narrow::{is_one, low_quarter, signed_of};
-use call_fields::panel_choices::{policy_of, surface_kind_of};
+use call_fields::numbered::Numbered;
 use geometry::rect::OptionalRect;
 use geometry::surface::SurfaceGeometry;
 use geometry::transform::SurfaceTransform;
@@ -34,12 +33,12 @@ fn transform_from(b: &[u64]) -> SurfaceTransform
     requires { length b.now ≡ panel_size }
     ensures { result ≡ transform_from b.now }
 {
-    let m11 = signed_of(b[16]);
-    let m12 = signed_of(b[17]);
-    let m21 = signed_of(b[18]);
-    let m22 = signed_of(b[19]);
-    let x = signed_of(b[20]);
-    let y = signed_of(b[21]);
+    let m11 = i32::from_number(b[16]);
+    let m12 = i32::from_number(b[17]);
+    let m21 = i32::from_number(b[18]);
+    let m22 = i32::from_number(b[19]);
+    let x = i32::from_number(b[20]);
+    let y = i32::from_number(b[21]);
     SurfaceTransform {
         m11_q16: m11.value,
         m12_q16: m12.value,
@@ -61,8 +60,8 @@ fn geometry_from(b: &[u64]) -> SurfaceGeometry
         bounds,
         clip,
         transform,
-        opacity_q16: low_quarter(b[22]),
-        hit_test_enabled: is_one(b[23]),
+        opacity_q16: u16::from_number(b[22]),
+        hit_test_enabled: bool::from_number(b[23]),
     }
 }
 
@@ -71,10 +70,10 @@ pub fn panel_from(b: &[u64]) -> SurfaceRecord
     ensures { result ≡ panel_from b.now }
 {
     let view = handle_of(b[0], b[1]);
-    let kind = surface_kind_of(b[2]);
-    let z = signed_of(b[3]);
-    let input = policy_of(b[4]);
-    let accepts_text = is_one(b[5]);
+    let kind = SurfaceKind::from_number(b[2]);
+    let z = i32::from_number(b[3]);
+    let input = SurfaceInputPolicy::from_number(b[4]);
+    let accepts_text = bool::from_number(b[5]);
     let geometry = geometry_from(b);
     let descriptor = SurfaceDescriptor {
         view,

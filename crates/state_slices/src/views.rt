@@ -6,8 +6,7 @@ ghost use Rattle.state_slices.specs.ViewNumbers.{optional_at, metrics_from, laye
 
 use crate::layout::{INPUT_SIZE, INPUTS_START, VIEW_SIZE, VIEWS_START};
 use call_fields::groups::{OptionalNumbers, handle_of, optional_of, pointer_of};
-use call_fields::narrow::{low_half, signed_of};
-use call_fields::panel_choices::visibility_of;
+use call_fields::numbered::Numbered;
 use geometry::metrics::{ViewInsets, ViewMetrics};
 use handles::{GenerationalHandle, OptionalHandle};
 use maps::captures::{Capture, PointerCaptures};
@@ -32,10 +31,10 @@ fn insets_from(b: &[u64]) -> ViewInsets
     ensures { result ≡ (metrics_from b.now).safe_area }
 {
     ViewInsets {
-        top_milli: low_half(b[10]),
-        right_milli: low_half(b[11]),
-        bottom_milli: low_half(b[12]),
-        left_milli: low_half(b[13]),
+        top_milli: u32::from_number(b[10]),
+        right_milli: u32::from_number(b[11]),
+        bottom_milli: u32::from_number(b[12]),
+        left_milli: u32::from_number(b[13]),
     }
 }
 
@@ -43,15 +42,15 @@ fn metrics_from(b: &[u64]) -> ViewMetrics
     requires { length b.now ≡ view_size }
     ensures { result ≡ metrics_from b.now }
 {
-    let x = signed_of(b[3]);
-    let y = signed_of(b[4]);
-    let width_milli = low_half(b[5]);
-    let height_milli = low_half(b[6]);
-    let framebuffer_width = low_half(b[7]);
-    let framebuffer_height = low_half(b[8]);
-    let scale_q16 = low_half(b[9]);
+    let x = i32::from_number(b[3]);
+    let y = i32::from_number(b[4]);
+    let width_milli = u32::from_number(b[5]);
+    let height_milli = u32::from_number(b[6]);
+    let framebuffer_width = u32::from_number(b[7]);
+    let framebuffer_height = u32::from_number(b[8]);
+    let scale_q16 = u32::from_number(b[9]);
     let safe_area = insets_from(b);
-    let visibility = visibility_of(b[14]);
+    let visibility = ViewVisibility::from_number(b[14]);
     ViewMetrics {
         revision: b[2],
         origin_x_milli: x.value,
