@@ -13,7 +13,7 @@ use geometry::rect::OptionalRect;
 use geometry::surface::SurfaceGeometry;
 use geometry::transform::SurfaceTransform;
 use records::layers::Layers;
-use records::surface::{SurfaceDescriptor, SurfaceRecord};
+use records::surface::{SurfaceDescriptor, SurfaceInputPolicy, SurfaceKind, SurfaceRecord};
 use view_panels::ViewPanels;
 
 fn rect_from(b: &[u64], k: usize) -> OptionalRect
@@ -29,61 +29,50 @@ fn rect_from(b: &[u64], k: usize) -> OptionalRect
     })
 }
 
+#[tactic(auto, unfolding(crate::specs::PanelNumbers::transform_from))]
 fn transform_from(b: &[u64]) -> SurfaceTransform
     requires { length b.now ≡ panel_size }
     ensures { result ≡ transform_from b.now }
 {
-    let m11 = i32::from_number(b[16]);
-    let m12 = i32::from_number(b[17]);
-    let m21 = i32::from_number(b[18]);
-    let m22 = i32::from_number(b[19]);
-    let x = i32::from_number(b[20]);
-    let y = i32::from_number(b[21]);
     SurfaceTransform {
-        m11_q16: m11.value,
-        m12_q16: m12.value,
-        m21_q16: m21.value,
-        m22_q16: m22.value,
-        translate_x_milli: x.value,
-        translate_y_milli: y.value,
+        m11_q16: i32::from_number(b[16]),
+        m12_q16: i32::from_number(b[17]),
+        m21_q16: i32::from_number(b[18]),
+        m22_q16: i32::from_number(b[19]),
+        translate_x_milli: i32::from_number(b[20]),
+        translate_y_milli: i32::from_number(b[21]),
     }
 }
 
+#[tactic(auto, unfolding(crate::specs::PanelNumbers::geometry_from))]
 fn geometry_from(b: &[u64]) -> SurfaceGeometry
     requires { length b.now ≡ panel_size }
     ensures { result ≡ geometry_from b.now }
 {
-    let bounds = rect_from(b, 6);
-    let clip = rect_from(b, 11);
-    let transform = transform_from(b);
     SurfaceGeometry {
-        bounds,
-        clip,
-        transform,
+        bounds: rect_from(b, 6),
+        clip: rect_from(b, 11),
+        transform: transform_from(b),
         opacity_q16: u16::from_number(b[22]),
         hit_test_enabled: bool::from_number(b[23]),
     }
 }
 
+#[tactic(auto, unfolding(crate::specs::PanelNumbers::panel_from))]
 pub fn panel_from(b: &[u64]) -> SurfaceRecord
     requires { length b.now ≡ panel_size }
     ensures { result ≡ panel_from b.now }
 {
-    let view = handle_of(b[0], b[1]);
-    let kind = SurfaceKind::from_number(b[2]);
-    let z = i32::from_number(b[3]);
-    let input = SurfaceInputPolicy::from_number(b[4]);
-    let accepts_text = bool::from_number(b[5]);
-    let geometry = geometry_from(b);
-    let descriptor = SurfaceDescriptor {
-        view,
-        kind,
-        z_order: z.value,
-        input,
-        accepts_text,
-        geometry,
-    };
-    SurfaceRecord { descriptor }
+    SurfaceRecord {
+        descriptor: SurfaceDescriptor {
+            view: handle_of(b[0], b[1]),
+            kind: SurfaceKind::from_number(b[2]),
+            z_order: i32::from_number(b[3]),
+            input: SurfaceInputPolicy::from_number(b[4]),
+            accepts_text: bool::from_number(b[5]),
+            geometry: geometry_from(b),
+        },
+    }
 }
 
 // The record of the panel in a slot; past the table a blank.

@@ -7,7 +7,7 @@ ghost use Rattle.state_slices.specs.ViewNumbers.{optional_at, metrics_from, laye
 use crate::layout::{INPUT_SIZE, INPUTS_START, VIEW_SIZE, VIEWS_START};
 use call_fields::groups::{OptionalNumbers, handle_of, optional_of, pointer_of};
 use call_fields::numbered::Numbered;
-use geometry::metrics::{ViewInsets, ViewMetrics};
+use geometry::metrics::{ViewInsets, ViewMetrics, ViewVisibility};
 use handles::{GenerationalHandle, OptionalHandle};
 use maps::captures::{Capture, PointerCaptures};
 use maps::keys::CompositionPointerId;
@@ -26,6 +26,7 @@ pub fn optional_from(b: &[u64], k: usize) -> OptionalHandle
     })
 }
 
+#[tactic(auto, unfolding(crate::specs::ViewNumbers::metrics_from))]
 fn insets_from(b: &[u64]) -> ViewInsets
     requires { length b.now ≡ view_size }
     ensures { result ≡ (metrics_from b.now).safe_area }
@@ -38,30 +39,22 @@ fn insets_from(b: &[u64]) -> ViewInsets
     }
 }
 
+#[tactic(auto, unfolding(crate::specs::ViewNumbers::metrics_from))]
 fn metrics_from(b: &[u64]) -> ViewMetrics
     requires { length b.now ≡ view_size }
     ensures { result ≡ metrics_from b.now }
 {
-    let x = i32::from_number(b[3]);
-    let y = i32::from_number(b[4]);
-    let width_milli = u32::from_number(b[5]);
-    let height_milli = u32::from_number(b[6]);
-    let framebuffer_width = u32::from_number(b[7]);
-    let framebuffer_height = u32::from_number(b[8]);
-    let scale_q16 = u32::from_number(b[9]);
-    let safe_area = insets_from(b);
-    let visibility = ViewVisibility::from_number(b[14]);
     ViewMetrics {
         revision: b[2],
-        origin_x_milli: x.value,
-        origin_y_milli: y.value,
-        width_milli,
-        height_milli,
-        framebuffer_width,
-        framebuffer_height,
-        scale_q16,
-        safe_area,
-        visibility,
+        origin_x_milli: i32::from_number(b[3]),
+        origin_y_milli: i32::from_number(b[4]),
+        width_milli: u32::from_number(b[5]),
+        height_milli: u32::from_number(b[6]),
+        framebuffer_width: u32::from_number(b[7]),
+        framebuffer_height: u32::from_number(b[8]),
+        scale_q16: u32::from_number(b[9]),
+        safe_area: insets_from(b),
+        visibility: ViewVisibility::from_number(b[14]),
     }
 }
 
