@@ -39,7 +39,7 @@ pub fn put_clipped(buf: &mut [u8], at: usize, s: &[u8]) -> usize
     put_bytes(buf, at, &s[..room.min(s.len())])
 }
 
-// How many digits a number has.
+// How many digits a number has. The turns are as many as are counted, so no range stands for them.
 fn places(n: u64) -> usize
     ensures { result ≡ length (decimal n) }
 {

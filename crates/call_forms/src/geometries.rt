@@ -1,4 +1,4 @@
-// The numbers of transforms and geometries.
+// The numbers of transforms and geometries, which two calls have at different places.
 ghost use Rattle.std.specs.Prelude.{◌≡◌};
 ghost use Rattle.call_forms.specs.Geometries.{transform_fields, geometry_fields};
 

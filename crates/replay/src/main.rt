@@ -71,7 +71,8 @@ fn write_answer(
     }
 }
 
-// Answers each line that a chunk completes: the loop itself does nothing but write.
+// Answers each line that a chunk completes: the loop itself does nothing but write. A turn says where the next one
+// begins, so no range stands for the turns.
 fn answer_chunk(
     rt: &(impl Print + Eprint),
     reading: Reading,

@@ -7,7 +7,7 @@ use crate::fault::LineFault;
 use crate::number::{Number, read_number};
 use crate::verb::{Verb, verb_named};
 
-// The numbers of a line. Unused places hold 0.
+// The numbers of a line, in fixed memory, as there is no heap. Unused places hold 0.
 #[derive(Clone, Copy)]
 pub struct Fields {
     pub numbers: [Number; 256],

@@ -18,7 +18,7 @@ use script::line::{Fields, Line};
 use script::number::Number;
 use script::verb::{CloseVerb, InputVerb, PanelVerb, ReadVerb, RouterVerb, StepVerb, Verb};
 
-// The calls' numbers.
+// The calls' numbers, of which the verbs of a script know nothing.
 fn panel_number(verb: PanelVerb) -> u8
     ensures { result ≡ panel_number verb }
 {

@@ -13,7 +13,7 @@ use script::fields::{FieldType, as_at_most, field};
 use script::line::Fields;
 use script::number::Number;
 
-// The first 32 numbers of a call, filled from the front.
+// The first 32 numbers of a call, filled from the front, in fixed memory, as there is no heap.
 #[derive(Clone, Copy)]
 pub struct Words {
     pub items: [u64; 32],
