@@ -13,8 +13,8 @@ use Rattle.calls.specs.declared.shown.Shown.{Shown}
 use Rattle.calls.specs.declared.shown.Shown.TheVariants as shown
 use Rattle.answer_numbers.specs.Groups.{handle_numbers, metrics_numbers, input_state_numbers, descriptor_numbers}
 use Rattle.answer_numbers.specs.Numbers.{Number, plain, signed, list_numbers}
-use Rattle.registry_dump.specs.Traces.{traces_numbers}
-use Rattle.registry_dump.specs.Views.{captures_numbers, view_layers_numbers}
+use Rattle.answer_numbers.specs.Traces.{traces_numbers}
+use Rattle.answer_numbers.specs.Views.{captures_numbers, view_layers_numbers}
 
 -- RULES.md, Hit test: the hits of a view at a point, topmost first: n, n × H
 abbrev pub shown_hits : CompositionRegistry → HitTestArguments → List Number

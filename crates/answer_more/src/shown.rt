@@ -3,7 +3,7 @@ ghost use Rattle.std.specs.Prelude.{ℕ, List, ◌≡◌};
 ghost use Rattle.records.specs.Views.{view_at};
 ghost use Rattle.answer_numbers.specs.declared.sink.Sink.{Sink};
 ghost use Rattle.answer_numbers.specs.Numbers.{numbers_taken};
-ghost use Rattle.registry_dump.specs.Views.{captures_numbers, view_layers_numbers};
+ghost use Rattle.answer_numbers.specs.Views.{captures_numbers, view_layers_numbers};
 ghost use Rattle.answer_more.specs.Place.{more_placed};
 ghost use Rattle.answer_more.specs.Shown.{shown_more};
 

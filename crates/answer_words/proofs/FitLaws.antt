@@ -56,7 +56,7 @@ use Rattle.counter.specs.declared.answer.Answer.{Answer}
 use Rattle.counter.specs.declared.step.Counter.{Counter}
 use Rattle.answer_numbers.specs.Groups.{handle_numbers, capture_numbers}
 use Rattle.answer_numbers.specs.Numbers.{Number, dumped_number}
-use Rattle.registry_dump.specs.Views.{described_numbers}
+use Rattle.answer_numbers.specs.Views.{described_numbers}
 use Rattle.answer_more.specs.More.{loss_numbers, event_more, accepted_more, more_of}
 use Rattle.answer_more.specs.Shown.{local_numbers, shown_more}
 use Rattle.answer_columns.specs.Named.{handle_for}
