@@ -1,9 +1,10 @@
 // Column 7: the handle that an answer names.
-ghost use Rattle.std.specs.Prelude.{ℕ, List, ◌≡◌};
-ghost use Rattle.answer_columns.specs.Pieces.{put_all};
+ghost use Rattle.std.specs.Prelude.{◌≡◌};
+ghost use Rattle.answer_columns.specs.Lines.{extended};
 ghost use Rattle.answer_columns.specs.Named.{input_handle, close_handle, lost_view, router_handle, shown_handle, accepted_handle, named_handle, named_pieces};
 
-use crate::pieces::{put_optional_handle, put_space};
+use crate::line::Line;
+use crate::pieces::Pieces;
 use calls::call::{Call, CloseCall, InputCall, RouterCall};
 use calls::shown::Shown;
 use handles::{GenerationalHandle, OptionalHandle};
@@ -121,10 +122,10 @@ pub fn named_handle(
 }
 
 // Column 7, with the spaces around it.
-pub fn put_named(out: &mut [u8], at: usize, handle: OptionalHandle) -> usize
-    ensures { ◌≡◌ {A = List ℕ × ℕ} (out.new, result) (put_all (named_pieces handle) (out.old, at)) }
+pub fn put_named(handle: OptionalHandle, line: &mut Line<'_>)
+    ensures { line.new ≡ extended (named_pieces handle) line.old }
 {
-    let a = put_space(out, at);
-    let b = put_optional_handle(out, a, handle);
-    put_space(out, b)
+    line.space();
+    handle.put(line);
+    line.space();
 }

@@ -1,14 +1,14 @@
 // The groups of numbers of the format: handles, pointers, rectangles, metrics, input states, descriptors.
 ghost use Rattle.std.specs.Prelude.{[], ◌∷◌};
 ghost use Rattle.answer_numbers.specs.Numbers.{plain};
-ghost use Rattle.answer_numbers.specs.Groups.{handle_numbers, optional_numbers, pointer_numbers, capture_numbers, rect_numbers, visibility_number, kind_number, policy_number, insets_numbers, metrics_numbers, input_state_numbers, transform_numbers, geometry_numbers, descriptor_numbers};
+ghost use Rattle.answer_numbers.specs.Groups.{handle_numbers, optional_numbers, pointer_numbers, capture_numbers, rect_numbers, visibility_number, kind_number, policy_number, insets_numbers, metrics_numbers, input_state_numbers, transform_numbers, geometry_numbers, descriptor_numbers, local_numbers};
 
 use crate::numbered::Numbered;
 use crate::writer::Writer;
 use geometry::metrics::{ViewInsets, ViewMetrics, ViewVisibility};
 use geometry::rect::{OptionalRect, SurfaceRect};
 use geometry::surface::SurfaceGeometry;
-use geometry::transform::SurfaceTransform;
+use geometry::transform::{LocalPoint, SurfaceTransform};
 use handles::{GenerationalHandle, OptionalHandle};
 use maps::captures::Capture;
 use maps::keys::CompositionPointerId;
@@ -203,5 +203,25 @@ impl Numbered for SurfaceDescriptor {
         self.input.write(to);
         self.accepts_text.write(to);
         self.geometry.write(to);
+    }
+}
+
+// A point in a panel: a flag, then the point or zeros.
+impl Numbered for LocalPoint {
+    ghost numbers = { local_numbers };
+
+    fn write(&self, to: &mut Writer<'_>) {
+        match self {
+            LocalPoint::At(point) => {
+                to.plain(1);
+                point.x_milli.write(to);
+                point.y_milli.write(to);
+            }
+            LocalPoint::Skipped => {
+                to.plain(0);
+                to.plain(0);
+                to.plain(0);
+            }
+        }
     }
 }
