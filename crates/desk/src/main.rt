@@ -3,13 +3,7 @@
 // pointer's device goes.
 // The program reads nothing and writes a line for each of the eight steps.
 
-#![tactic(auto, using(
-    answer_columns::proofs::LineLaws::extended_both,
-    answer_columns::proofs::LineLaws::extended_none,
-    answer_columns::proofs::LineLaws::same_buffer,
-    answer_columns::proofs::LineLaws::buffer_of,
-    answer_columns::proofs::LineLaws::place_of,
-))]
+#![tactic(auto, using(answer_columns::proofs::LineLaws::extended_both, answer_columns::proofs::LineLaws::extended_none, answer_columns::proofs::LineLaws::same_buffer, answer_columns::proofs::LineLaws::buffer_of, answer_columns::proofs::LineLaws::place_of,))]
 
 mod opening;
 mod steps;

@@ -13,12 +13,7 @@ use counter::step::{Stepped, step};
 fn put_line(number: u64, done: &Stepped, line: &mut Line<'_>)
     ensures { line.new ≡ extended (line_pieces number done.now) line.old }
 {
-    put_columns(
-        number,
-        done.counter.registry.revision,
-        &done.answer,
-        line,
-    );
+    put_columns(number, done.counter.registry.revision, &done.answer, line);
     line.byte(b'\n');
 }
 
@@ -27,7 +22,8 @@ fn put_steps(opened: Opened, line: &mut Line<'_>)
     ensures { line.new ≡ holding line.old (lines_after opened (held line.old)) }
 {
     let mut counter = opened.counter;
-    for number in 1..=8 {
+    for i in 0..8 {
+        let number = i + 1;
         let done = step(counter, call_of(opened.places, number), no_lists());
         put_line(number, &done, line);
         counter = done.counter;
