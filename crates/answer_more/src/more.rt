@@ -1,4 +1,6 @@
 // What an answer shows: column 8, or the words behind a host's answer.
+//
+// A buffer, a place and a kind go in and no writer: what is shown begins a text of its own, or words, at that place.
 ghost use Rattle.std.specs.Prelude.{ℕ, List, ◌≡◌};
 ghost use Rattle.answer_more.specs.More.{loss_numbers, event_more, router_more, more_of};
 ghost use Rattle.answer_more.specs.Place.{more_placed};

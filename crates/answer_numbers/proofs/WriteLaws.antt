@@ -24,6 +24,19 @@ pub written_both : (a b : List Number) (w : Writer) → written b (written a w) 
 unfolding written
 written_both a b w = ap (holding w) (taken_both a b (held w))
 
+-- a writer keeps its buffer, and what stands there and where it ends are as the numbers say
+pub same_buffer : (l : List Number) (w : Writer) → (written l w).out.ghost_name ≡ w.out.ghost_name
+unfolding written
+same_buffer l w = refl
+
+pub buffer_of : (l : List Number) (w : Writer) → (written l w).out.now ≡ (numbers_taken l (w.out.now, w.sink)).0
+unfolding written
+buffer_of l w = refl
+
+pub place_of : (l : List Number) (w : Writer) → (written l w).sink.at ≡ (numbers_taken l (w.out.now, w.sink)).1.at
+unfolding written
+place_of l w = refl
+
 -- a list, one entry more after its count and its first entries
 pub place_written : {E : Type 0} (f : E → List Number) (l : List E) (i : ℕ) (d : E) (n : Number) (w : Writer) {v u : Writer} → i < length l
     → v ≡ written (n ∷ each f (take i l)) w → u ≡ written (f (get_or l i d)) v → u ≡ written (n ∷ each f (take (i + 1) l)) w

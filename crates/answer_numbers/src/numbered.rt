@@ -100,6 +100,7 @@ pub fn write_group<E: Grouped>(entries: &[E], group: usize, to: &mut Writer<'_>)
 }
 
 // Puts the numbers of a value at a place, and answers the place after them.
+#[tactic(auto, using(crate::proofs::WriteLaws::same_buffer, crate::proofs::WriteLaws::buffer_of, crate::proofs::WriteLaws::place_of,))]
 pub fn put_numbers<E: Numbered>(out: &mut [u8], at: usize, kind: SinkKind, value: &E) -> usize
     ensures { ◌≡◌ {A = List ℕ × ℕ} (out.new, result)
         (placed kind (E.numbers value.now) (out.old, at)) }
