@@ -1,3 +1,4 @@
 pub mod PieceLaws
+pub mod LineLaws
 pub mod BlankLaws
 pub mod ClaimLaws

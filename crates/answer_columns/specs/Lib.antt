@@ -1,4 +1,5 @@
 pub mod Pieces
+pub mod Lines
 pub mod Columns
 pub mod Named
 pub mod Claims

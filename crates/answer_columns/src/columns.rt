@@ -1,49 +1,63 @@
 // Columns 1 to 6 of an answer line.
-ghost use Rattle.std.specs.Prelude.{◌≡◌, List, ℕ};
-ghost use Rattle.answer_columns.specs.Pieces.{put_all};
-ghost use Rattle.answer_columns.specs.Columns.{number_pieces, arbitration_pieces, column_pieces};
+ghost use Rattle.std.specs.Prelude.{◌≡◌};
+ghost use Rattle.answer_columns.specs.Columns.{number_pieces, arbitration_pieces, releases_column, column_pieces};
+ghost use Rattle.answer_columns.specs.Lines.{extended};
 
-use crate::delivered::put_deliveries;
-use crate::pieces::{put_cell, put_optional_handle, put_space};
-use crate::released::put_releases;
+use crate::line::Line;
+use crate::pieces::{Pieces, put_list};
+use answer_numbers::numbered::front;
 use composition_arbitration::arbitrate::ArbitrationResult;
 use counter::answer::Answer;
 use input_events::error::number;
+use release_lists::captures::CaptureList;
+use release_lists::releases::Releases;
 
 // Columns 1 to 3, each with the space behind it.
-fn put_numbers(out: &mut [u8], at: usize, calls: u64, number: u64, revision: u64) -> usize
-    ensures { ◌≡◌ {A = List ℕ × ℕ} (out.new, result)
-        (put_all (number_pieces calls number revision) (out.old, at)) }
+pub fn put_numbers(calls: u64, number: u64, revision: u64, line: &mut Line<'_>)
+    ensures { line.new ≡ extended (number_pieces calls number revision) line.old }
 {
-    let a = put_cell(out, at, calls);
-    let b = put_cell(out, a, number);
-    put_cell(out, b, revision)
+    line.cell(calls);
+    line.cell(number);
+    line.cell(revision);
 }
 
 // Columns 4 and 5.
-fn put_arbitration(out: &mut [u8], at: usize, arbitration: ArbitrationResult) -> usize
-    ensures { ◌≡◌ {A = List ℕ × ℕ} (out.new, result)
-        (put_all (arbitration_pieces arbitration) (out.old, at)) }
+#[tactic(auto, using(crate::proofs::LineLaws::extended_both), unfolding(lists::specs::Tables::entries_of))]
+fn put_arbitration(arbitration: &ArbitrationResult, line: &mut Line<'_>)
+    ensures { line.new ≡ extended (arbitration_pieces arbitration.now) line.old }
 {
-    let consumer = arbitration.consumed_by;
-    let a = put_optional_handle(out, at, consumer);
-    let b = put_space(out, a);
-    put_deliveries(out, b, arbitration.deliveries)
+    arbitration.consumed_by.put(line);
+    line.space();
+    put_list(
+        front(&arbitration.deliveries.items, arbitration.deliveries.len),
+        line,
+    );
+}
+
+// The captures that a call lists, or else the releases of its report.
+#[tactic(auto, unfolding(lists::specs::Tables::entries_of, crate::specs::Columns::releases_column))]
+fn put_releases(listed: &Releases, captures: &CaptureList, line: &mut Line<'_>)
+    ensures { line.new ≡ extended (releases_column listed.now captures.now) line.old }
+{
+    let held = front(&captures.items, captures.len);
+    if held.len() == 0 {
+        put_list(front(&listed.items, listed.len), line);
+    } else {
+        put_list(held, line);
+    }
 }
 
 // The number of the call, the answer, the revision after the call, the consumer, the deliveries and the releases.
-pub fn put_columns(out: &mut [u8], at: usize, calls: u64, revision: u64, answer: Answer) -> usize
-    ensures { ◌≡◌ {A = List ℕ × ℕ} (out.new, result)
-        (put_all (column_pieces calls revision answer) (out.old, at)) }
+#[tactic(auto, using(crate::proofs::LineLaws::extended_both), unfolding(crate::specs::Columns::column_pieces))]
+pub fn put_columns(calls: u64, revision: u64, answer: &Answer, line: &mut Line<'_>)
+    ensures { line.new ≡ extended (column_pieces calls revision answer.now) line.old }
 {
-    let outcome = answer.outcome;
-    let a = put_numbers(out, at, calls, number(outcome), revision);
-    let b = put_arbitration(out, a, answer.report.arbitration);
-    let c = put_space(out, b);
+    put_numbers(calls, number(answer.outcome), revision, line);
+    put_arbitration(&answer.report.arbitration, line);
+    line.space();
     put_releases(
-        out,
-        c,
-        answer.report.synthesized_releases,
-        answer.listed.captures,
-    )
+        &answer.report.synthesized_releases,
+        &answer.listed.captures,
+        line,
+    );
 }

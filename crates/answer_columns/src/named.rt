@@ -1,9 +1,10 @@
 // Column 7: the handle that an answer names.
-ghost use Rattle.std.specs.Prelude.{ℕ, List, ◌≡◌};
-ghost use Rattle.answer_columns.specs.Pieces.{put_all};
+ghost use Rattle.std.specs.Prelude.{◌≡◌};
+ghost use Rattle.answer_columns.specs.Lines.{extended};
 ghost use Rattle.answer_columns.specs.Named.{input_handle, close_handle, lost_view, router_handle, shown_handle, accepted_handle, named_handle, named_pieces};
 
-use crate::pieces::{put_optional_handle, put_space};
+use crate::line::Line;
+use crate::pieces::Pieces;
 use calls::call::{Call, CloseCall, InputCall, RouterCall};
 use calls::shown::Shown;
 use handles::{GenerationalHandle, OptionalHandle};
@@ -15,17 +16,8 @@ fn input_handle(call: InputCall) -> OptionalHandle
     ensures { result ≡ input_handle call }
 {
     match call {
-        InputCall::SetFocus(_) => OptionalHandle::None,
-        InputCall::CapturePointer(_) => OptionalHandle::None,
-        InputCall::CapturePointerFor(_) => OptionalHandle::None,
-        InputCall::ReleasePointer(_) => OptionalHandle::None,
-        InputCall::ReleasePointerFor(_) => OptionalHandle::None,
-        InputCall::BeginIme(_) => OptionalHandle::None,
-        InputCall::EndIme(_) => OptionalHandle::None,
-        InputCall::SuspendViewInput(given) => {
-            let view = given.handle;
-            OptionalHandle::Some(view)
-        }
+        InputCall::SuspendViewInput(given) => OptionalHandle::Some(given.handle),
+        _ => OptionalHandle::None,
     }
 }
 
@@ -43,10 +35,8 @@ fn lost_view(kind: RouteKind, view: GenerationalHandle) -> OptionalHandle
     ensures { result ≡ lost_view kind view }
 {
     match kind {
-        RouteKind::Nothing => OptionalHandle::None,
-        RouteKind::Disconnected => OptionalHandle::None,
-        RouteKind::Arbitrated => OptionalHandle::None,
         RouteKind::ViewReleased => OptionalHandle::Some(view),
+        _ => OptionalHandle::None,
     }
 }
 
@@ -55,12 +45,8 @@ fn router_handle(call: RouterCall, kind: RouteKind) -> OptionalHandle
     ensures { result ≡ router_handle call kind }
 {
     match call {
-        RouterCall::Route(event) => {
-            let view = event.header.view;
-            lost_view(kind, view)
-        }
-        RouterCall::ReleaseSurface(_) => OptionalHandle::None,
-        RouterCall::ReleaseAll => OptionalHandle::None,
+        RouterCall::Route(event) => lost_view(kind, event.header.view),
+        RouterCall::ReleaseSurface(_) | RouterCall::ReleaseAll => OptionalHandle::None,
     }
 }
 
@@ -69,18 +55,8 @@ fn shown_handle(shown: Shown) -> OptionalHandle
     ensures { result ≡ shown_handle shown }
 {
     match shown {
-        Shown::Nothing => OptionalHandle::None,
         Shown::Window(window) => OptionalHandle::Some(window),
-        Shown::Metrics(_) => OptionalHandle::None,
-        Shown::InputState(_) => OptionalHandle::None,
-        Shown::Captures(_) => OptionalHandle::None,
-        Shown::Descriptor(_) => OptionalHandle::None,
-        Shown::Layers(_) => OptionalHandle::None,
-        Shown::Traces => OptionalHandle::None,
-        Shown::Counts(_) => OptionalHandle::None,
-        Shown::BindingCount(_) => OptionalHandle::None,
-        Shown::Hits(_) => OptionalHandle::None,
-        Shown::Local(_) => OptionalHandle::None,
+        _ => OptionalHandle::None,
     }
 }
 
@@ -95,12 +71,10 @@ fn accepted_handle(
     match call {
         Call::Panel(_) => made,
         Call::Input(which) => input_handle(which),
-        Call::ReleaseDevice(_) => OptionalHandle::None,
-        Call::Shortcut(_) => OptionalHandle::None,
-        Call::Arbitrate(_) => OptionalHandle::None,
         Call::Close(which) => close_handle(which),
         Call::Router(which) => router_handle(which, kind),
         Call::Read(_) => shown_handle(shown),
+        Call::ReleaseDevice(_) | Call::Shortcut(_) | Call::Arbitrate(_) => OptionalHandle::None,
     }
 }
 
@@ -121,10 +95,10 @@ pub fn named_handle(
 }
 
 // Column 7, with the spaces around it.
-pub fn put_named(out: &mut [u8], at: usize, handle: OptionalHandle) -> usize
-    ensures { ◌≡◌ {A = List ℕ × ℕ} (out.new, result) (put_all (named_pieces handle) (out.old, at)) }
+pub fn put_named(handle: OptionalHandle, line: &mut Line<'_>)
+    ensures { line.new ≡ extended (named_pieces handle) line.old }
 {
-    let a = put_space(out, at);
-    let b = put_optional_handle(out, a, handle);
-    put_space(out, b)
+    line.space();
+    handle.put(line);
+    line.space();
 }

@@ -13,7 +13,8 @@ use Rattle.router_dump.specs.Router.{router_numbers}
 use Rattle.answer_columns.specs.Pieces.{put_all, space_pieces, none_pieces, cell_pieces}
 use Rattle.answer_columns.specs.Columns.{number_pieces, column_pieces}
 use Rattle.answer_more.specs.More.{more_of}
-use Rattle.answer_more.specs.Place.{placed, more_placed}
+use Rattle.answer_numbers.specs.Writers.{placed}
+use Rattle.answer_more.specs.Place.{more_placed}
 use Rattle.answer_columns.specs.Named.{handle_for, named_pieces}
 
 -- columns 1 to 8 of an answered call, from the start of the buffer

@@ -1,32 +1,31 @@
 // The lines that show nothing but their numbers, and those of a whole dump.
 ghost use Rattle.std.specs.Prelude.{ℕ, List, ◌≡◌};
+ghost use Rattle.answer_columns.specs.Lines.{extended};
 ghost use Rattle.answer_columns.specs.Pieces.{put_all};
 ghost use Rattle.answer_line.specs.Line.{blank_pieces, head_pieces, plain_pieces, no_call_pieces, state_taken, router_state_taken};
 
-use answer_columns::pieces::{put_cell, put_none};
-use answer_numbers::sink::{SinkKind, sink_from};
-use answer_text::put::put_bytes;
+use answer_columns::columns::put_numbers as put_first;
+use answer_columns::line::Line;
+use answer_numbers::numbered::put_numbers;
+use answer_numbers::sink::SinkKind;
 use composition_state::registry::CompositionRegistry;
 use input_router::router::PlatformInputRouter;
-use registry_dump::registry::take_registry;
-use router_dump::router::take_router;
+use registry_dump::registry::RegistryDump;
+use router_dump::router::RouterDump;
 
 // Columns 4 to 7 of a call that shows nothing, each with the space behind it.
-fn put_blank(out: &mut [u8], at: usize) -> usize
-    ensures { ◌≡◌ {A = List ℕ × ℕ} (out.new, result) (put_all blank_pieces (out.old, at)) }
+fn put_blank(line: &mut Line<'_>)
+    ensures { line.new ≡ extended blank_pieces line.old }
 {
-    put_bytes(out, at, b"- - - - ")
+    line.bytes(b"- - - - ");
 }
 
 // Columns 1 to 7.
-fn put_head(out: &mut [u8], calls: u64, number: u64, revision: u64) -> usize
-    ensures { ◌≡◌ {A = List ℕ × ℕ} (out.new, result)
-        (put_all (head_pieces calls number revision) (out.old, 0)) }
+fn put_head(calls: u64, number: u64, revision: u64, line: &mut Line<'_>)
+    ensures { line.new ≡ extended (head_pieces calls number revision) line.old }
 {
-    let a = put_cell(out, 0, calls);
-    let b = put_cell(out, a, number);
-    let c = put_cell(out, b, revision);
-    put_blank(out, c)
+    put_first(calls, number, revision, line);
+    put_blank(line);
 }
 
 // Columns 1 to 8 of a call that shows nothing.
@@ -34,8 +33,10 @@ pub fn put_plain(out: &mut [u8], calls: u64, number: u64, revision: u64) -> usiz
     ensures { ◌≡◌ {A = List ℕ × ℕ} (out.new, result)
         (put_all (plain_pieces calls number revision) (out.old, 0)) }
 {
-    let at = put_head(out, calls, number, revision);
-    put_none(out, at)
+    let mut line = Line { out, at: 0 };
+    put_head(calls, number, revision, &mut line);
+    line.none();
+    line.at
 }
 
 // Columns 1 to 8 of a line that is no call.
@@ -43,20 +44,23 @@ pub fn put_no_call(out: &mut [u8], calls: u64, revision: u64) -> usize
     ensures { ◌≡◌ {A = List ℕ × ℕ} (out.new, result)
         (put_all (no_call_pieces calls revision) (out.old, 0)) }
 {
-    let a = put_cell(out, 0, calls);
-    let b = put_bytes(out, a, b"? ");
-    let c = put_cell(out, b, revision);
-    let d = put_blank(out, c);
-    put_none(out, d)
+    let mut line = Line { out, at: 0 };
+    line.cell(calls);
+    line.bytes(b"? ");
+    line.cell(revision);
+    put_blank(&mut line);
+    line.none();
+    line.at
 }
 
 // Columns 1 to 8 of `state`.
 pub fn put_state(out: &mut [u8], calls: u64, registry: CompositionRegistry) -> usize
     ensures { ◌≡◌ {A = List ℕ × ℕ} (out.new, result) (state_taken calls registry out.old) }
 {
-    let at = put_head(out, calls, 0, registry.revision);
-    let end = take_registry(out, sink_from(SinkKind::Dump, at), registry);
-    end.at
+    let mut line = Line { out, at: 0 };
+    put_head(calls, 0, registry.revision, &mut line);
+    let at = line.at;
+    put_numbers(line.out, at, SinkKind::Dump, &RegistryDump(&registry))
 }
 
 // Columns 1 to 8 of `router_state`.
@@ -69,7 +73,8 @@ pub fn put_router_state(
     ensures { ◌≡◌ {A = List ℕ × ℕ} (out.new, result)
         (router_state_taken calls revision router out.old) }
 {
-    let at = put_head(out, calls, 0, revision);
-    let end = take_router(out, sink_from(SinkKind::Dump, at), router);
-    end.at
+    let mut line = Line { out, at: 0 };
+    put_head(calls, 0, revision, &mut line);
+    let at = line.at;
+    put_numbers(line.out, at, SinkKind::Dump, &RouterDump(&router))
 }

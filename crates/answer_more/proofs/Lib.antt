@@ -1,3 +1,1 @@
-pub mod ReportListLaws
-pub mod PlaceLaws
 pub mod ShownLaws

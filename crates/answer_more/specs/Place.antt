@@ -2,18 +2,10 @@
 use Rattle.std.specs.Prelude.{ℕ, List, [], ◌∷◌}
 use Rattle.std.proofs.Math.Option.{Option, none, some}
 use Rattle.answer_text.specs.Put.{put}
-use Rattle.answer_numbers.specs.declared.sink.Sink.{Sink}
 use Rattle.answer_numbers.specs.declared.sink.SinkKind.{SinkKind}
 use Rattle.answer_numbers.specs.declared.sink.SinkKind.TheVariants.{Column, Dump, Digest, Words}
-use Rattle.answer_numbers.specs.Numbers.{Number, sink_from, numbers_taken}
-
--- a buffer and the place after what a sink has taken
-abbrev pub place_of : List ℕ × Sink → List ℕ × ℕ
-place_of s = (s.0, s.1.at)
-
--- numbers from a place on, as a kind of sink writes them
-abbrev pub placed : SinkKind → List Number → List ℕ × ℕ → List ℕ × ℕ
-placed k l s = place_of (numbers_taken l (s.0, sink_from k s.1))
+use Rattle.answer_numbers.specs.Numbers.{Number}
+use Rattle.answer_numbers.specs.Writers.{placed}
 
 -- none is `-` (45) in a text; among words it is nothing, as the call and its number say what follows
 abbrev pub none_placed : SinkKind → List ℕ × ℕ → List ℕ × ℕ

@@ -1,9 +1,6 @@
 -- What a call shows beside its handle, its lists and its report.
 use Rattle.std.specs.Prelude.{List, [], ◌∷◌, ◌++◌}
 use Rattle.std.proofs.Math.Option.{Option, none, some}
-use Rattle.geometry.specs.declared.transform.LocalPoint.{LocalPoint}
-use Rattle.geometry.specs.declared.transform.LocalPoint.TheVariants.{At, Skipped}
-use Rattle.geometry.specs.declared.transform.Point.{Point}
 use Rattle.records.specs.Views.{view_at}
 use Rattle.composition_state.specs.declared.registry.CompositionRegistry.{CompositionRegistry}
 use Rattle.composition_hits.specs.HitTest.{view_hits}
@@ -11,10 +8,10 @@ use Rattle.calls.specs.declared.arguments.HitTestArguments.{HitTestArguments}
 use Rattle.calls.specs.declared.shown.Counts.{Counts}
 use Rattle.calls.specs.declared.shown.Shown.{Shown}
 use Rattle.calls.specs.declared.shown.Shown.TheVariants as shown
-use Rattle.answer_numbers.specs.Groups.{handle_numbers, metrics_numbers, input_state_numbers, descriptor_numbers}
-use Rattle.answer_numbers.specs.Numbers.{Number, plain, signed, list_numbers}
-use Rattle.registry_dump.specs.Traces.{traces_numbers}
-use Rattle.registry_dump.specs.Views.{captures_numbers, view_layers_numbers}
+use Rattle.answer_numbers.specs.Groups.{handle_numbers, metrics_numbers, input_state_numbers, descriptor_numbers, local_numbers}
+use Rattle.answer_numbers.specs.Numbers.{Number, plain, list_numbers}
+use Rattle.answer_numbers.specs.Traces.{traces_numbers}
+use Rattle.answer_numbers.specs.Views.{captures_numbers, view_layers_numbers}
 
 -- RULES.md, Hit test: the hits of a view at a point, topmost first: n, n × H
 abbrev pub shown_hits : CompositionRegistry → HitTestArguments → List Number
@@ -26,15 +23,6 @@ shown_counts c =
     handle_numbers c.session
     ++ (plain c.session_epoch ∷ plain c.revision ∷ plain c.windows ∷ plain c.views ∷ plain c.surfaces
     ∷ [])
-
--- a point in a panel: 1, x, y
-abbrev pub point_numbers : Point → List Number
-point_numbers p = plain 1 ∷ signed p.x_milli ∷ signed p.y_milli ∷ []
-
--- three zeros where the panel is skipped
-abbrev pub local_numbers : LocalPoint → List Number
-local_numbers (At p) = point_numbers p
-local_numbers Skipped = plain 0 ∷ plain 0 ∷ plain 0 ∷ []
 
 -- a window stands in column 7
 abbrev pub shown_more : Shown → CompositionRegistry → Option (List Number)

@@ -1,15 +1,16 @@
 // What an answer shows: column 8, or the words behind a host's answer.
+//
+// A buffer, a place and a kind go in and no writer: what is shown begins a text of its own, or words, at that place.
 ghost use Rattle.std.specs.Prelude.{ℕ, List, ◌≡◌};
-ghost use Rattle.answer_numbers.specs.declared.sink.Sink.{Sink};
-ghost use Rattle.answer_numbers.specs.Numbers.{numbers_taken};
 ghost use Rattle.answer_more.specs.More.{loss_numbers, event_more, router_more, more_of};
 ghost use Rattle.answer_more.specs.Place.{more_placed};
 
 use crate::closing::put_closing;
 use crate::none::put_none;
 use crate::shown::put_shown;
-use answer_numbers::groups::take_input_state;
-use answer_numbers::sink::{Sink, SinkKind, sink_from, take_plain};
+use answer_numbers::numbered::{Numbered, put_numbers};
+use answer_numbers::sink::SinkKind;
+use answer_numbers::writer::Writer;
 use calls::call::{Call, RouterCall};
 use composition_input::answer::OptionalInputState;
 use counter::answer::Answer;
@@ -17,14 +18,18 @@ use counter::step::Counter;
 use input_releases::answer::RouteKind;
 
 // What a view's loss let go.
-fn take_loss(out: &mut [u8], sink: Sink, state: OptionalInputState) -> Sink
-    ensures { ◌≡◌ {A = List ℕ × Sink} (out.new, result)
-        (numbers_taken (loss_numbers state) (out.old, sink)) }
-{
-    let next = take_plain(out, sink, 2);
-    match state {
-        OptionalInputState::None => next,
-        OptionalInputState::Some(s) => take_input_state(out, next, s),
+#[derive(Clone, Copy)]
+struct Loss<'a>(&'a OptionalInputState);
+
+impl Numbered for Loss<'_> {
+    ghost numbers = { λ l. loss_numbers l.0.now };
+
+    fn write(&self, to: &mut Writer<'_>) {
+        to.plain(2);
+        match self.0 {
+            OptionalInputState::None => {}
+            OptionalInputState::Some(state) => state.write(to),
+        }
     }
 }
 
@@ -32,46 +37,35 @@ fn take_loss(out: &mut [u8], sink: Sink, state: OptionalInputState) -> Sink
 fn put_event(
     out: &mut [u8],
     at: usize,
-    sink_kind: SinkKind,
-    kind: RouteKind,
+    kind: SinkKind,
+    route: RouteKind,
     state: OptionalInputState,
 ) -> usize
     ensures { ◌≡◌ {A = List ℕ × ℕ} (out.new, result)
-        (more_placed sink_kind (event_more kind state) (out.old, at)) }
+        (more_placed kind (event_more route state) (out.old, at)) }
 {
-    let sink = sink_from(sink_kind, at);
-    match kind {
-        RouteKind::Nothing => put_none(out, at, sink_kind),
-        RouteKind::Disconnected => {
-            let end = take_plain(out, sink, 0);
-            end.at
-        }
-        RouteKind::Arbitrated => {
-            let end = take_plain(out, sink, 1);
-            end.at
-        }
-        RouteKind::ViewReleased => {
-            let end = take_loss(out, sink, state);
-            end.at
-        }
+    match route {
+        RouteKind::Nothing => put_none(out, at, kind),
+        RouteKind::Disconnected => put_numbers(out, at, kind, &0u64),
+        RouteKind::Arbitrated => put_numbers(out, at, kind, &1u64),
+        RouteKind::ViewReleased => put_numbers(out, at, kind, &Loss(&state)),
     }
 }
 
 fn put_routed(
     out: &mut [u8],
     at: usize,
-    sink_kind: SinkKind,
+    kind: SinkKind,
     call: RouterCall,
-    kind: RouteKind,
+    route: RouteKind,
     state: OptionalInputState,
 ) -> usize
     ensures { ◌≡◌ {A = List ℕ × ℕ} (out.new, result)
-        (more_placed sink_kind (router_more call kind state) (out.old, at)) }
+        (more_placed kind (router_more call route state) (out.old, at)) }
 {
     match call {
-        RouterCall::Route(_) => put_event(out, at, sink_kind, kind, state),
-        RouterCall::ReleaseSurface(_) => put_none(out, at, sink_kind),
-        RouterCall::ReleaseAll => put_none(out, at, sink_kind),
+        RouterCall::Route(_) => put_event(out, at, kind, route, state),
+        RouterCall::ReleaseSurface(_) | RouterCall::ReleaseAll => put_none(out, at, kind),
     }
 }
 
@@ -79,38 +73,30 @@ fn put_routed(
 pub fn put_more(
     out: &mut [u8],
     at: usize,
-    sink_kind: SinkKind,
+    kind: SinkKind,
     call: Call,
     answer: Answer,
     counter: Counter,
 ) -> usize
     ensures { ◌≡◌ {A = List ℕ × ℕ} (out.new, result)
-        (more_placed sink_kind (more_of call answer counter) (out.old, at)) }
+        (more_placed kind (more_of call answer counter) (out.old, at)) }
 {
-    let outcome = answer.outcome;
-    if outcome.is_accepted() {} else {
-        return put_none(out, at, sink_kind);
+    if !answer.outcome.is_accepted() {
+        return put_none(out, at, kind);
     }
     match call {
-        Call::Close(which) => {
-            return put_closing(
-                out,
-                at,
-                sink_kind,
-                which,
-                answer.listed.closed,
-                answer.listed.shutdown,
-            );
-        }
+        Call::Close(which) => put_closing(
+            out,
+            at,
+            kind,
+            which,
+            &answer.listed.closed,
+            &answer.listed.shutdown,
+        ),
         Call::Router(which) => {
             let report = answer.report;
-            let kind = report.kind;
-            let state = report.view_release;
-            return put_routed(out, at, sink_kind, which, kind, state);
+            put_routed(out, at, kind, which, report.kind, report.view_release)
         }
-        _ => {
-            let shown = answer.shown;
-            return put_shown(out, at, sink_kind, shown, counter.registry);
-        }
+        _ => put_shown(out, at, kind, answer.shown, counter.registry),
     }
 }

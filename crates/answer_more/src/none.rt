@@ -5,13 +5,11 @@ ghost use Rattle.answer_more.specs.Place.{none_placed};
 use answer_numbers::sink::SinkKind;
 use answer_text::put::put_byte;
 
-pub fn put_none(out: &mut [u8], at: usize, sink_kind: SinkKind) -> usize
-    ensures { ◌≡◌ {A = List ℕ × ℕ} (out.new, result) (none_placed sink_kind (out.old, at)) }
+pub fn put_none(out: &mut [u8], at: usize, kind: SinkKind) -> usize
+    ensures { ◌≡◌ {A = List ℕ × ℕ} (out.new, result) (none_placed kind (out.old, at)) }
 {
-    match sink_kind {
-        SinkKind::Column => put_byte(out, at, b'-'),
-        SinkKind::Dump => put_byte(out, at, b'-'),
-        SinkKind::Digest => put_byte(out, at, b'-'),
+    match kind {
+        SinkKind::Column | SinkKind::Dump | SinkKind::Digest => put_byte(out, at, b'-'),
         SinkKind::Words => at,
     }
 }

@@ -1,5 +1,4 @@
-pub mod RaiseLaws
 pub mod TakeLaws
 pub mod EachLaws
-pub mod HandleListLaws
+pub mod WriteLaws
 pub mod DigestSinkLaws

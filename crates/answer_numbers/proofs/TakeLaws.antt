@@ -1,62 +1,27 @@
--- Laws of numbers taken into a sink: by the sink's kind, one list after the other, and the length of the buffer.
+-- Laws of numbers taken into a sink: one list after the other, and the length of the buffer.
 use Prim.Native.Nat.{ℕ, ◌+◌}
 use mathlib.Core.Bool.{Bool, true, false, cond}
 use mathlib.Core.List.{List, [], ◌∷◌, ◌++◌}
-use mathlib.Core.Path.{◌≡◌, refl, sym, ap, ◌∙◌}
+use mathlib.Core.Path.{◌≡◌, refl, ◌∙◌}
 use native.Mathlib.Omega.{arith}
 use lib.Dec.{leb}
-use lib.IntN.{ℤ, pos, nat_abs}
+use lib.IntN.{pos, nat_abs}
 use lib.ListN.{length, length-append, length-take, length-drop}
 use lib.Signed.{lt_z}
-use mir.Facts.{to_z-of_z}
-use mir.Syntax.{w32}
-use mir.Val.{SFits, of_z, to_z}
 use borrow.Author.Tests.{leb-true}
 use Rattle.lists.proofs.ListLaws.{by_test}
 use Rattle.answer_text.specs.Decimal.{decimal}
-use Rattle.answer_text.specs.Digests.{add_number}
 use Rattle.answer_text.specs.Put.{put}
 use Rattle.answer_numbers.specs.declared.sink.Sink.{Sink}
 use Rattle.answer_numbers.specs.declared.sink.SinkKind.{SinkKind}
 use Rattle.answer_numbers.specs.declared.sink.SinkKind.TheVariants as kind
-use Rattle.answer_numbers.specs.Numbers.{Number, plain, signed, dumped_number, put_number, separated, sink_after, word, text_taken, word_taken, taken_as, number_taken, numbers_taken}
-
--- one number, by the kind of the sink
-module _ (n : Number) (s : List ℕ × Sink) where
-  by_kind : {k : SinkKind} → s.1.kind ≡ k → taken_as k n s ≡ numbers_taken (n ∷ []) s
-  unfolding number_taken numbers_taken
-  by_kind e = ap (λ (k : SinkKind). taken_as k n s) (sym e)
-
-  pub in_column : s.1.kind ≡ kind.Column → text_taken (put_number n) s ≡ numbers_taken (n ∷ []) s
-  in_column e = by_kind e
-
-  pub in_dump : s.1.kind ≡ kind.Dump → text_taken (put (decimal (dumped_number n))) s ≡ numbers_taken (n ∷ []) s
-  in_dump e = by_kind e
-
-  pub in_digest : s.1.kind ≡ kind.Digest → (s.0, sink_after s.1 s.1.at (add_number s.1.digest (dumped_number n))) ≡ numbers_taken (n ∷ []) s
-  in_digest e = by_kind e
-
-  pub in_words : s.1.kind ≡ kind.Words → word_taken (dumped_number n) s ≡ numbers_taken (n ∷ []) s
-  in_words e = by_kind e
-
--- no number
-pub nothing_taken : (s : List ℕ × Sink) → s ≡ numbers_taken [] s
-unfolding numbers_taken
-nothing_taken s = refl
+use Rattle.answer_numbers.specs.Numbers.{Number, plain, signed, dumped_number, put_number, separated, word, taken_as, number_taken, numbers_taken}
 
 -- two lists one after the other are the two as one
 pub taken_both : (a b : List Number) (s : List ℕ × Sink) → numbers_taken b (numbers_taken a s) ≡ numbers_taken (a ++ b) s
 unfolding numbers_taken
 taken_both [] b s = refl
 taken_both (n ∷ a) b s = taken_both a b (number_taken n s)
-
--- what two calls take, the second where the first ended
-pub then : (a b : List Number) (s : List ℕ × Sink) {t u : List ℕ × Sink} → t ≡ numbers_taken a s → u ≡ numbers_taken b t → u ≡ numbers_taken (a ++ b) s
-then a b s e f = f ∙ ap (numbers_taken b) e ∙ taken_both a b s
-
--- a signed field is handed over by its bits, and is the same number there
-pub stored : (z : ℤ) (s : List ℕ × Sink) {t : List ℕ × Sink} → SFits w32 z → t ≡ numbers_taken (signed (to_z w32 (of_z w32 z)) ∷ []) s → t ≡ numbers_taken (signed z ∷ []) s
-stored z s f e = e ∙ ap (λ (x : ℤ). numbers_taken (signed x ∷ []) s) (to_z-of_z {w = w32} {z = z} f)
 
 -- ---- the buffer keeps its length
 put_long : (text : List ℕ) (s : List ℕ × ℕ) → length (put text s).0 ≡ length s.0
@@ -86,6 +51,3 @@ pub all_long : (l : List Number) (s : List ℕ × Sink) → length (numbers_take
 unfolding numbers_taken number_taken
 all_long [] s = refl
 all_long (n ∷ l) s = all_long l (number_taken n s) ∙ taken_long s.1.kind n s
-
-pub same_size : (l : List Number) (s : List ℕ × Sink) {t : List ℕ × Sink} → t ≡ numbers_taken l s → length t.0 ≡ length s.0
-same_size l s e = ap (λ (t : List ℕ × Sink). length t.0) e ∙ all_long l s

@@ -12,6 +12,9 @@ use Rattle.geometry.specs.declared.metrics.ViewVisibility.TheVariants.{Visible, 
 use Rattle.geometry.specs.declared.rect.OptionalRect.{OptionalRect}
 use Rattle.geometry.specs.declared.rect.OptionalRect.TheVariants as R
 use Rattle.geometry.specs.declared.surface.SurfaceGeometry.{SurfaceGeometry}
+use Rattle.geometry.specs.declared.transform.LocalPoint.{LocalPoint}
+use Rattle.geometry.specs.declared.transform.LocalPoint.TheVariants.{At, Skipped}
+use Rattle.geometry.specs.declared.transform.Point.{Point}
 use Rattle.geometry.specs.declared.transform.SurfaceTransform.{SurfaceTransform}
 use Rattle.records.specs.declared.surface.SurfaceDescriptor.{SurfaceDescriptor}
 use Rattle.records.specs.declared.surface.SurfaceKind.{SurfaceKind}
@@ -116,3 +119,12 @@ descriptor_numbers d =
     handle_numbers d.view
     ++ (plain (kind_number d.kind) ∷ signed d.z_order ∷ plain (policy_number d.input)
     ∷ flag d.accepts_text ∷ geometry_numbers d.geometry)
+
+-- a point in a panel: 1, x, y
+abbrev pub point_numbers : Point → List Number
+point_numbers p = plain 1 ∷ signed p.x_milli ∷ signed p.y_milli ∷ []
+
+-- three zeros where the panel is skipped
+abbrev pub local_numbers : LocalPoint → List Number
+local_numbers (At p) = point_numbers p
+local_numbers Skipped = plain 0 ∷ plain 0 ∷ plain 0 ∷ []

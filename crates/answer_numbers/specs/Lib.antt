@@ -1,4 +1,10 @@
 pub mod Numbers
+pub mod Writers
 pub mod Groups
 pub mod Lists
+pub mod Arenas
+pub mod Views
+pub mod Panels
+pub mod Traces
+pub mod Presses
 pub mod Claims

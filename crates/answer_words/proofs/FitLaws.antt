@@ -54,11 +54,11 @@ use Rattle.counter.specs.Answers.{releases_alone}
 use Rattle.counter.specs.Step.{close_step, router_step, stepped}
 use Rattle.counter.specs.declared.answer.Answer.{Answer}
 use Rattle.counter.specs.declared.step.Counter.{Counter}
-use Rattle.answer_numbers.specs.Groups.{handle_numbers, capture_numbers}
+use Rattle.answer_numbers.specs.Groups.{handle_numbers, capture_numbers, local_numbers}
 use Rattle.answer_numbers.specs.Numbers.{Number, dumped_number}
-use Rattle.registry_dump.specs.Views.{described_numbers}
+use Rattle.answer_numbers.specs.Views.{described_numbers}
 use Rattle.answer_more.specs.More.{loss_numbers, event_more, accepted_more, more_of}
-use Rattle.answer_more.specs.Shown.{local_numbers, shown_more}
+use Rattle.answer_more.specs.Shown.{shown_more}
 use Rattle.answer_columns.specs.Named.{handle_for}
 use Rattle.answer_words.specs.Answers.{answer_numbers, shown_numbers, answer_words}
 use Rattle.answer_words.specs.Bounds.{Most, most, most_closing, most_routed, most_of, Bounded, most_words}

@@ -11,7 +11,8 @@ use Rattle.answer_text.specs.Put.{put}
 use Rattle.answer_text.specs.declared.digest.Digest.{Digest}
 use Rattle.answer_numbers.specs.declared.sink.SinkKind.TheVariants.{Words}
 use Rattle.answer_numbers.specs.Numbers.{Number, dumped_number, low_bytes, word, number_taken, numbers_taken}
-use Rattle.answer_more.specs.Place.{place_of, placed, more_placed}
+use Rattle.answer_numbers.specs.Writers.{place_of, placed}
+use Rattle.answer_more.specs.Place.{more_placed}
 use Rattle.answer_columns.specs.Pieces.{put_all}
 use Rattle.answer_columns.proofs.ClaimLaws as columns
 use Rattle.answer_columns.proofs.PieceLaws.{chain}

@@ -25,7 +25,7 @@ use Rattle.counter.specs.declared.answer.Answer.{Answer}
 use Rattle.counter.specs.declared.step.Counter.{Counter}
 use Rattle.answer_numbers.specs.Groups.{optional_numbers}
 use Rattle.answer_numbers.specs.Numbers.{Number, plain, dumped_number, each, list_numbers, low_bytes}
-use Rattle.registry_dump.specs.Traces.{delivery_numbers, deliveries_numbers}
+use Rattle.answer_numbers.specs.Traces.{delivery_numbers, deliveries_numbers}
 use Rattle.answer_more.specs.More.{more_of}
 use Rattle.answer_columns.specs.Named.{handle_for}
 use Rattle.answer_words.specs.Answers.{release_numbers, releases_numbers, captures_numbers, shown_numbers}

@@ -23,8 +23,8 @@ use Rattle.release_lists.specs.Releases.{releases}
 use Rattle.counter.specs.declared.answer.Answer.{Answer}
 use Rattle.answer_numbers.specs.Groups.{handle_numbers, optional_numbers, capture_numbers, rect_numbers, input_state_numbers}
 use Rattle.answer_numbers.specs.Groups.{geometry_numbers, descriptor_numbers}
-use Rattle.registry_dump.specs.Traces.{event_fields, delivery_numbers, trace_numbers, traces_numbers}
-use Rattle.registry_dump.specs.Views.{described_numbers}
+use Rattle.answer_numbers.specs.Traces.{event_fields, delivery_numbers, trace_numbers, traces_numbers}
+use Rattle.answer_numbers.specs.Views.{described_numbers}
 use Rattle.answer_words.specs.Answers.{release_numbers, answer_numbers}
 use Rattle.answer_words.specs.Lengths.{All, TraceLengths}
 use Rattle.answer_words.proofs.EntryLaws.{all_take, all_more, each_long, list_few, list_fixed}

@@ -19,7 +19,7 @@ use Rattle.counter.specs.declared.answer.Answer.{Answer}
 use Rattle.counter.specs.declared.step.Counter.{Counter}
 use Rattle.answer_numbers.specs.Groups.{handle_numbers, optional_numbers, capture_numbers}
 use Rattle.answer_numbers.specs.Numbers.{Number, plain, dumped_number, list_numbers, word}
-use Rattle.registry_dump.specs.Traces.{deliveries_numbers}
+use Rattle.answer_numbers.specs.Traces.{deliveries_numbers}
 use Rattle.answer_more.specs.More.{more_of}
 use Rattle.answer_columns.specs.Named.{handle_for}
 use Rattle.answer_columns.specs.Pieces.{put_all}

@@ -1,67 +1,66 @@
 // A whole answer as words.
 ghost use Rattle.std.specs.Prelude.{ℕ, List, ◌≡◌};
-ghost use Rattle.answer_numbers.specs.declared.sink.Sink.{Sink};
-ghost use Rattle.answer_numbers.specs.Numbers.{numbers_taken};
+ghost use Rattle.answer_numbers.specs.Writers.{written};
 ghost use Rattle.answer_words.specs.Answers.{arbitration_numbers, answer_numbers, answer_placed};
 
-use crate::listed::{take_captures, take_releases};
+use crate::listed::{write_captures, write_releases};
 use answer_columns::named::named_handle;
 use answer_more::more::put_more;
-use answer_numbers::groups::take_optional;
-use answer_numbers::sink::{Sink, SinkKind, sink_from, take_plain};
+use answer_numbers::numbered::{Numbered, put_numbers};
+use answer_numbers::sink::SinkKind;
+use answer_numbers::writer::Writer;
 use calls::call::Call;
 use composition_arbitration::arbitrate::ArbitrationResult;
 use counter::answer::Answer;
 use counter::step::Counter;
 use handles::OptionalHandle;
 use input_events::error::number;
-use registry_dump::traces::take_deliveries;
 
-fn take_arbitration(out: &mut [u8], sink: Sink, res: ArbitrationResult) -> Sink
-    ensures { ◌≡◌ {A = List ℕ × Sink} (out.new, result)
-        (numbers_taken (arbitration_numbers res) (out.old, sink)) }
+fn write_arbitration(arbitration: &ArbitrationResult, to: &mut Writer<'_>)
+    ensures { to.new ≡ written (arbitration_numbers arbitration.now) to.old }
 {
-    let consumer = res.consumed_by;
-    let next = take_optional(out, sink, consumer);
-    take_deliveries(out, next, res.deliveries)
+    arbitration.consumed_by.write(to);
+    arbitration.deliveries.write(to);
 }
 
-// The number, the revision, the arbitration, the releases, the captures and the handle that it names.
-fn take_answer(
-    out: &mut [u8],
-    sink: Sink,
+// An answer with the revision after its call and the handle that it names.
+#[derive(Clone, Copy)]
+struct Answered<'a> {
     revision: u64,
-    answer: Answer,
+    answer: &'a Answer,
     named: OptionalHandle,
-) -> Sink
-    ensures { ◌≡◌ {A = List ℕ × Sink} (out.new, result)
-        (numbers_taken (answer_numbers revision answer named) (out.old, sink)) }
-{
-    let outcome = answer.outcome;
-    let a = take_plain(out, sink, number(outcome));
-    let b = take_plain(out, a, revision);
-    let c = take_arbitration(out, b, answer.report.arbitration);
-    let d = take_releases(out, c, answer.report.synthesized_releases);
-    let e = take_captures(out, d, answer.listed.captures);
-    take_optional(out, e, named)
+}
+
+// The number, the revision, the arbitration, the releases, the captures and the handle that is named.
+impl Numbered for Answered<'_> {
+    ghost numbers = { λ a. answer_numbers a.revision a.answer.now a.named };
+
+    fn write(&self, to: &mut Writer<'_>) {
+        let answer = self.answer;
+        to.plain(number(answer.outcome));
+        self.revision.write(to);
+        write_arbitration(&answer.report.arbitration, to);
+        write_releases(&answer.report.synthesized_releases, to);
+        write_captures(&answer.listed.captures, to);
+        self.named.write(to);
+    }
 }
 
 // The answer from the front of the buffer on, for the counter after the call; answered is the place behind it.
 pub fn put_answer(out: &mut [u8], call: Call, answer: Answer, counter: Counter) -> usize
     ensures { ◌≡◌ {A = List ℕ × ℕ} (out.new, result) (answer_placed call answer counter out.old) }
 {
-    let outcome = answer.outcome;
-    let handle = answer.handle;
-    let report = answer.report;
-    let kind = report.kind;
-    let shown = answer.shown;
-    let named = named_handle(outcome, call, handle, kind, shown);
-    let end = take_answer(
-        out,
-        sink_from(SinkKind::Words, 0),
-        counter.registry.revision,
-        answer,
-        named,
-    );
-    put_more(out, end.at, SinkKind::Words, call, answer, counter)
+    let answered = Answered {
+        revision: counter.registry.revision,
+        answer: &answer,
+        named: named_handle(
+            answer.outcome,
+            call,
+            answer.handle,
+            answer.report.kind,
+            answer.shown,
+        ),
+    };
+    let end = put_numbers(out, 0, SinkKind::Words, &answered);
+    put_more(out, end, SinkKind::Words, call, answer, counter)
 }

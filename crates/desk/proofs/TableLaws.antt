@@ -5,7 +5,9 @@ use mathlib.Core.Path.{◌≡◌, sym, ap, ◌∙◌}
 use Rattle.lists.specs.Below.{iter_below}
 use Rattle.lists.proofs.BelowLaws.{iter_none, iter_more}
 use Rattle.answer_text.specs.Put.{put}
+use Rattle.answer_columns.specs.Lines.{held, holding, extended}
 use Rattle.answer_columns.specs.Pieces.{put_all}
+use Rattle.answer_columns.specs.declared.line.Line.{Line}
 use Rattle.counter.specs.declared.step.Counter.{Counter}
 use Rattle.counter.specs.declared.step.Stepped.{Stepped}
 use Rattle.counter.specs.Step.{stepped}
@@ -16,6 +18,18 @@ use Rattle.desk.specs.declared.opening.Places.{Places}
 use Rattle.desk.specs.Opening.{no_lists, opened}
 use Rattle.desk.specs.Steps.{call_of}
 use Rattle.desk.specs.Table.{column_line, line_pieces, line_after, lines_after, table_after}
+
+-- pieces behind a line leave its buffer the same, whatever stands there
+pub kept : (pieces : List (List ℕ)) (s : Line) {t u : Line} → t ≡ holding s (held t) → u ≡ extended pieces t → u ≡ holding s (held u)
+unfolding extended
+kept pieces s {t} before more =
+    let state = put_all pieces (held t) in
+    more ∙ ap (λ (x : Line). holding x state) before ∙ ap (holding s) (sym (ap held more))
+
+-- and what the line holds is as the pieces say
+pub held_more : (pieces : List (List ℕ)) (t : Line) {u : Line} → u ≡ extended pieces t → held u ≡ put_all pieces (held t)
+unfolding extended
+held_more pieces t more = ap held more
 
 abbrev pub State : Type 0
 State = Counter × (List ℕ × ℕ)

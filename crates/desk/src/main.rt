@@ -3,7 +3,7 @@
 // pointer's device goes.
 // The program reads nothing and writes a line for each of the eight steps.
 
-#![tactic(auto)]
+#![tactic(auto, using(answer_columns::proofs::LineLaws::extended_both, answer_columns::proofs::LineLaws::extended_none, answer_columns::proofs::LineLaws::same_buffer, answer_columns::proofs::LineLaws::buffer_of, answer_columns::proofs::LineLaws::place_of,))]
 
 mod opening;
 mod steps;
@@ -11,16 +11,11 @@ mod table;
 
 use std::io;
 
-// Writes the first `len` bytes of a text.
-fn write_front(rt: &impl Print, text: &[u8], len: usize) -> io::Result<()> {
-    if len <= text.len() {
-        return rt.write_all(&text[..len]);
-    }
-    Ok(())
-}
-
 fn main(rt: HostRuntime) -> io::Result<()> {
     let mut text = [0u8; 1024];
     let end = table::put_table(&mut text);
-    write_front(&rt, &text, end)
+    match text.get(..end) {
+        Some(written) => rt.write_all(written),
+        None => Ok(()),
+    }
 }

@@ -16,11 +16,9 @@ use std::io;
 // The numbers on a line of their own.
 fn put_numbers(out: &mut [u8], at: usize, numbers: &[u64]) -> usize {
     let mut next = at;
-    let mut i: usize = 0;
-    while i < numbers.len() {
-        next = put_u64(out, next, numbers[i]);
+    for n in numbers {
+        next = put_u64(out, next, *n);
         next = put_byte(out, next, b' ');
-        i += 1;
     }
     put_byte(out, next, b'\n')
 }
@@ -39,14 +37,6 @@ fn put_test(out: &mut [u8], at: usize, registry: CompositionRegistry, buffer: &m
     put_numbers(out, listed, buffer)
 }
 
-// Writes the first `len` bytes of a text.
-fn write_front(rt: &impl Print, text: &[u8], len: usize) -> io::Result<()> {
-    if len <= text.len() {
-        return rt.write_all(&text[..len]);
-    }
-    Ok(())
-}
-
 fn main(rt: HostRuntime) -> io::Result<()> {
     let registry = open();
     let mut text = [0u8; 512];
@@ -54,5 +44,8 @@ fn main(rt: HostRuntime) -> io::Result<()> {
     let half = put_test(&mut text, 0, registry, &mut long);
     let mut short = [7u64; 31];
     let end = put_test(&mut text, half, registry, &mut short);
-    write_front(&rt, &text, end)
+    match text.get(..end) {
+        Some(written) => rt.write_all(written),
+        None => Ok(()),
+    }
 }

@@ -38,22 +38,10 @@ fn panel() -> SurfaceDescriptor {
     }
 }
 
-fn with_window(registry: CompositionRegistry) -> CompositionRegistry {
-    let created = create_window(registry);
-    created.registry
-}
-
-fn with_view(registry: CompositionRegistry) -> CompositionRegistry {
-    let created = create_view(registry, first());
-    created.registry
-}
-
-fn with_panel(registry: CompositionRegistry) -> CompositionRegistry {
-    let attached = attach_surface(registry, panel());
-    attached.registry
-}
-
 pub fn open() -> CompositionRegistry {
-    let started = CompositionRegistry::new(first(), 1, limits());
-    with_panel(with_panel(with_view(with_window(started.registry))))
+    let started = CompositionRegistry::new(first(), 1, limits()).registry;
+    let windowed = create_window(started).registry;
+    let viewed = create_view(windowed, first()).registry;
+    let once = attach_surface(viewed, panel()).registry;
+    attach_surface(once, panel()).registry
 }

@@ -35,12 +35,12 @@ use Rattle.counter.specs.declared.step.Counter.{Counter}
 use Rattle.answer_numbers.specs.Groups.{handle_numbers, capture_numbers, descriptor_numbers}
 use Rattle.answer_numbers.specs.Numbers.{Number, each, indices}
 use Rattle.answer_numbers.proofs.EachLaws.{each_append, indices_long}
-use Rattle.registry_dump.specs.Arenas.{slot_numbers, index_numbers, arena_end, arena_numbers}
-use Rattle.registry_dump.specs.Panels.{registration_numbers, is_of_slot, registrations_numbers, panel_numbers, panels_numbers}
+use Rattle.answer_numbers.specs.Arenas.{slot_numbers, index_numbers, arena_end, arena_numbers}
+use Rattle.answer_numbers.specs.Panels.{registration_numbers, is_of_slot, registrations_numbers, panel_numbers, panels_numbers}
 use Rattle.registry_dump.specs.Registry.{registry_numbers}
-use Rattle.registry_dump.specs.Views.{view_numbers, views_numbers}
-use Rattle.router_dump.specs.Presses.{press_numbers, is_of_kind, presses_numbers}
-use Rattle.router_dump.specs.Router.{sequence_numbers, router_numbers}
+use Rattle.answer_numbers.specs.Views.{view_numbers, views_numbers}
+use Rattle.answer_numbers.specs.Presses.{press_numbers, is_of_kind, presses_numbers, sequence_numbers}
+use Rattle.router_dump.specs.Router.{router_numbers}
 use Rattle.answer_words.specs.Lengths.{All, ViewLengths}
 use Rattle.answer_words.proofs.EntryLaws.{all_get, each_long, list_fixed}
 use Rattle.answer_words.proofs.SizeLaws.{optional_size, descriptor_size, traces_size}

@@ -13,7 +13,8 @@ use Rattle.answer_numbers.specs.declared.sink.Sink.{Sink}
 use Rattle.answer_numbers.specs.declared.sink.SinkKind.{SinkKind}
 use Rattle.answer_numbers.specs.declared.sink.SinkKind.TheVariants.{Column, Dump}
 use Rattle.answer_numbers.specs.Numbers.{Number, plain, signed, put_number, text_taken, taken_as, number_taken, numbers_taken}
-use Rattle.answer_more.specs.Place.{place_of, placed, more_placed}
+use Rattle.answer_numbers.specs.Writers.{place_of, placed}
+use Rattle.answer_more.specs.Place.{more_placed}
 use Rattle.answer_columns.specs.Pieces.{put_all, later_pieces, entry_pieces}
 use Rattle.answer_columns.proofs.PieceLaws.{chain}
 use Rattle.line_lengths.specs.Texts.{shown_pieces, dumped_pieces, more_pieces}

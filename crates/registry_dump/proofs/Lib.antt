@@ -1,3 +1,0 @@
-pub mod ArenaLaws
-pub mod TraceListLaws
-pub mod PanelLaws

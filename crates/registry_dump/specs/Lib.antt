@@ -1,6 +1,2 @@
-pub mod Arenas
-pub mod Views
-pub mod Panels
-pub mod Traces
 pub mod Registry
 pub mod Claims

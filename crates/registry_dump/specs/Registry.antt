@@ -8,10 +8,10 @@ use Rattle.composition_state.specs.declared.registry.CompositionLimits.{Composit
 use Rattle.composition_state.specs.declared.registry.CompositionRegistry.{CompositionRegistry}
 use Rattle.answer_numbers.specs.Groups.{handle_numbers}
 use Rattle.answer_numbers.specs.Numbers.{Number, plain}
-use Rattle.registry_dump.specs.Arenas.{windows_numbers}
-use Rattle.registry_dump.specs.Views.{views_numbers}
-use Rattle.registry_dump.specs.Panels.{panels_numbers}
-use Rattle.registry_dump.specs.Traces.{traces_numbers}
+use Rattle.answer_numbers.specs.Arenas.{windows_numbers}
+use Rattle.answer_numbers.specs.Views.{views_numbers}
+use Rattle.answer_numbers.specs.Panels.{panels_numbers}
+use Rattle.answer_numbers.specs.Traces.{traces_numbers}
 
 -- the limits: windows, views, panels, panels a view, traces
 abbrev pub limits_numbers : CompositionLimits → List Number

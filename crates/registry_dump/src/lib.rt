@@ -1,10 +1,5 @@
 // The numbers of a registry: as text, and as the digest of its dump.
 
-#![tactic(auto)]
+#![tactic(auto, using(answer_numbers::proofs::WriteLaws::written_both))]
 
-pub mod arenas;
-pub mod events;
-pub mod panels;
 pub mod registry;
-pub mod traces;
-pub mod views;

@@ -1,3 +1,2 @@
-pub mod Presses
 pub mod Router
 pub mod Claims

@@ -1,6 +1,5 @@
 // The numbers of a router: as text, and as the digest of its dump.
 
-#![tactic(auto)]
+#![tactic(auto, using(answer_numbers::proofs::WriteLaws::written_both))]
 
-pub mod presses;
 pub mod router;

@@ -1,8 +1,0 @@
--- `handle_from` meets its contract: each case is the definition's.
-use Rattle.desk.proofs.opening.handle_from.Goals as goal
-
-pub returns-in-None : goal.returns-in-None
-returns-in-None c = rw c.in-None.is
-
-pub returns-in-Some : goal.returns-in-Some
-returns-in-Some c = rw c.in-Some.is
