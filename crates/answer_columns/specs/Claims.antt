@@ -1,8 +1,8 @@
 -- What holds of the columns of every answer.
-use Rattle.std.specs.Prelude.{ℕ, ◌+◌, ◌≤◌, false, ◌≡◌, length}
+use Rattle.std.specs.Prelude.{ℕ, ◌+◌, ◌≤◌, false, ◌≡◌, length, is_ok}
 use mathlib.Core.List.{List, ◌++◌, flatten}
 use Rattle.answer_text.specs.Put.{put}
-use Rattle.input_events.specs.RouterErrors.{router_number_of, is_router_accepted}
+use Rattle.input_events.specs.RouterErrors.{router_number_of}
 use Rattle.calls.specs.declared.call.Call.{Call}
 use Rattle.calls.specs.declared.call.Lists.{Lists}
 use Rattle.counter.specs.declared.step.Counter.{Counter}
@@ -19,7 +19,7 @@ pub record ColumnClaims : Type 0 where
       → put_all pieces (buf, 0) ≡ text_then (flatten pieces) buf
   -- a refused call has `-` in columns 4 to 6
   pub refused_blank : (k : Counter) (call : Call) (l : Lists) (calls revision : ℕ)
-      → is_router_accepted (stepped k call l).answer.outcome ≡ false
+      → is_ok (stepped k call l).answer.outcome ≡ false
       → column_pieces calls revision (stepped k call l).answer
       ≡ number_pieces calls (router_number_of (stepped k call l).answer.outcome) revision ++ none_pieces ++ space_pieces
       ++ none_pieces ++ space_pieces ++ none_pieces

@@ -7,12 +7,10 @@ use Rattle.maps.specs.declared.keys.BindingKey.{BindingKey}
 use Rattle.maps.specs.declared.keys.BindingKey.TheVariants.{Pointer, Key, Gamepad}
 use Rattle.records.specs.declared.trace.InputDelivery.{InputDelivery}
 use Rattle.records.specs.Traces.{deliveries}
-use Rattle.release_lists.specs.declared.captures.CaptureList.{CaptureList}
-use Rattle.release_lists.specs.Captures.{capture_list}
+use Rattle.release_lists.specs.Captures.{CaptureList, capture_list}
 use Rattle.composition_arbitration.specs.declared.arbitrate.ArbitrationResult.{ArbitrationResult}
 use Rattle.input_events.specs.RouterErrors.{router_number_of}
-use Rattle.release_lists.specs.declared.releases.Releases.{Releases}
-use Rattle.release_lists.specs.Releases.{releases, capture_release}
+use Rattle.release_lists.specs.Releases.{Releases, releases, capture_release}
 use Rattle.counter.specs.declared.answer.Answer.{Answer}
 use Rattle.answer_columns.specs.Pieces.{space_pieces, cell_pieces, pair_pieces, triple_pieces, handle_pieces, optional_pieces, list_pieces}
 

@@ -1,10 +1,8 @@
 -- Text in pieces, put one after the other: a number in its column, a handle, and a list of entries.
-use Rattle.std.specs.Prelude.{ℕ, cond, List, [], ◌∷◌, ◌++◌, eqb, length, drop}
+use Rattle.std.specs.Prelude.{ℕ, cond, List, [], ◌∷◌, ◌++◌, eqb, length, drop, Option, None, Some}
 use Rattle.answer_text.specs.Decimal.{decimal}
 use Rattle.answer_text.specs.Put.{put}
 use Rattle.handles.specs.declared.GenerationalHandle.{GenerationalHandle}
-use Rattle.handles.specs.declared.OptionalHandle.{OptionalHandle}
-use Rattle.handles.specs.declared.OptionalHandle.TheVariants.{None, Some}
 
 -- a buffer and a place in it, once each piece is put behind the one before it
 abbrev pub put_all : List (List ℕ) → List ℕ × ℕ → List ℕ × ℕ
@@ -39,7 +37,7 @@ triple_pieces m n k = decimal m ∷ (46 ∷ []) ∷ decimal n ∷ (46 ∷ []) �
 abbrev pub handle_pieces : GenerationalHandle → List (List ℕ)
 handle_pieces h = pair_pieces h.index h.generation
 
-abbrev pub optional_pieces : OptionalHandle → List (List ℕ)
+abbrev pub optional_pieces : Option GenerationalHandle → List (List ℕ)
 optional_pieces None = none_pieces
 optional_pieces (Some h) = handle_pieces h
 

@@ -5,10 +5,9 @@ ghost use Rattle.answer_columns.specs.Lines.{extended};
 
 use crate::line::Line;
 use crate::pieces::{Pieces, put_list};
-use answer_numbers::numbered::front;
 use composition_arbitration::arbitrate::ArbitrationResult;
 use counter::answer::Answer;
-use input_events::error::number;
+use records::error::number;
 use release_lists::captures::CaptureList;
 use release_lists::releases::Releases;
 
@@ -22,26 +21,22 @@ pub fn put_numbers(calls: u64, number: u64, revision: u64, line: &mut Line<'_>)
 }
 
 // Columns 4 and 5.
-#[tactic(auto, using(crate::proofs::LineLaws::extended_both), unfolding(lists::specs::Tables::entries_of))]
 fn put_arbitration(arbitration: &ArbitrationResult, line: &mut Line<'_>)
     ensures { line.new ≡ extended (arbitration_pieces arbitration.now) line.old }
 {
     arbitration.consumed_by.put(line);
     line.space();
-    put_list(
-        front(&arbitration.deliveries.items, arbitration.deliveries.len),
-        line,
-    );
+    put_list(arbitration.deliveries.entries(), line);
 }
 
 // The captures that a call lists, or else the releases of its report.
-#[tactic(auto, unfolding(lists::specs::Tables::entries_of, crate::specs::Columns::releases_column))]
+#[tactic(auto, unfolding(crate::specs::Columns::releases_column))]
 fn put_releases(listed: &Releases, captures: &CaptureList, line: &mut Line<'_>)
     ensures { line.new ≡ extended (releases_column listed.now captures.now) line.old }
 {
-    let held = front(&captures.items, captures.len);
+    let held = captures.entries();
     if held.len() == 0 {
-        put_list(front(&listed.items, listed.len), line);
+        put_list(listed.entries(), line);
     } else {
         put_list(held, line);
     }

@@ -7,65 +7,65 @@ use crate::line::Line;
 use crate::pieces::Pieces;
 use calls::call::{Call, CloseCall, InputCall, RouterCall};
 use calls::shown::Shown;
-use handles::{GenerationalHandle, OptionalHandle};
+use handles::GenerationalHandle;
 use input_events::error::RouterOutcome;
 use input_releases::answer::RouteKind;
 
 // A suspend names its view.
-fn input_handle(call: InputCall) -> OptionalHandle
+fn input_handle(call: InputCall) -> Option<GenerationalHandle>
     ensures { result ≡ input_handle call }
 {
     match call {
-        InputCall::SuspendViewInput(given) => OptionalHandle::Some(given.handle),
-        _ => OptionalHandle::None,
+        InputCall::SuspendViewInput(given) => Some(given.handle),
+        _ => None,
     }
 }
 
 // A close names its panel.
-fn close_handle(call: CloseCall) -> OptionalHandle
+fn close_handle(call: CloseCall) -> Option<GenerationalHandle>
     ensures { result ≡ close_handle call }
 {
     match call {
-        CloseCall::CloseSurface(surface) => OptionalHandle::Some(surface),
-        CloseCall::Shutdown => OptionalHandle::None,
+        CloseCall::CloseSurface(surface) => Some(surface),
+        CloseCall::Shutdown => None,
     }
 }
 
-fn lost_view(kind: RouteKind, view: GenerationalHandle) -> OptionalHandle
+fn lost_view(kind: RouteKind, view: GenerationalHandle) -> Option<GenerationalHandle>
     ensures { result ≡ lost_view kind view }
 {
     match kind {
-        RouteKind::ViewReleased => OptionalHandle::Some(view),
-        _ => OptionalHandle::None,
+        RouteKind::ViewReleased => Some(view),
+        _ => None,
     }
 }
 
 // A loss names its view.
-fn router_handle(call: RouterCall, kind: RouteKind) -> OptionalHandle
+fn router_handle(call: RouterCall, kind: RouteKind) -> Option<GenerationalHandle>
     ensures { result ≡ router_handle call kind }
 {
     match call {
         RouterCall::Route(event) => lost_view(kind, event.header.view),
-        RouterCall::ReleaseSurface(_) | RouterCall::ReleaseAll => OptionalHandle::None,
+        RouterCall::ReleaseSurface(_) | RouterCall::ReleaseAll => None,
     }
 }
 
 // A view's window is named where it is shown.
-fn shown_handle(shown: Shown) -> OptionalHandle
+fn shown_handle(shown: Shown) -> Option<GenerationalHandle>
     ensures { result ≡ shown_handle shown }
 {
     match shown {
-        Shown::Window(window) => OptionalHandle::Some(window),
-        _ => OptionalHandle::None,
+        Shown::Window(window) => Some(window),
+        _ => None,
     }
 }
 
 fn accepted_handle(
     call: Call,
-    made: OptionalHandle,
+    made: Option<GenerationalHandle>,
     kind: RouteKind,
     shown: Shown,
-) -> OptionalHandle
+) -> Option<GenerationalHandle>
     ensures { result ≡ accepted_handle call made kind shown }
 {
     match call {
@@ -74,7 +74,7 @@ fn accepted_handle(
         Call::Close(which) => close_handle(which),
         Call::Router(which) => router_handle(which, kind),
         Call::Read(_) => shown_handle(shown),
-        Call::ReleaseDevice(_) | Call::Shortcut(_) | Call::Arbitrate(_) => OptionalHandle::None,
+        Call::ReleaseDevice(_) | Call::Shortcut(_) | Call::Arbitrate(_) => None,
     }
 }
 
@@ -82,20 +82,20 @@ fn accepted_handle(
 pub fn named_handle(
     outcome: RouterOutcome,
     call: Call,
-    made: OptionalHandle,
+    made: Option<GenerationalHandle>,
     kind: RouteKind,
     shown: Shown,
-) -> OptionalHandle
+) -> Option<GenerationalHandle>
     ensures { result ≡ named_handle outcome call made kind shown }
 {
     match outcome {
-        RouterOutcome::Accepted => accepted_handle(call, made, kind, shown),
-        RouterOutcome::Refused(_) => OptionalHandle::None,
+        Ok(()) => accepted_handle(call, made, kind, shown),
+        Err(_) => None,
     }
 }
 
 // Column 7, with the spaces around it.
-pub fn put_named(handle: OptionalHandle, line: &mut Line<'_>)
+pub fn put_named(handle: Option<GenerationalHandle>, line: &mut Line<'_>)
     ensures { line.new ≡ extended (named_pieces handle) line.old }
 {
     line.space();

@@ -6,7 +6,7 @@ ghost use Rattle.answer_columns.specs.Pieces.{triple_pieces, handle_pieces, opti
 ghost use Rattle.release_lists.specs.Releases.{capture_release};
 
 use crate::line::Line;
-use handles::{GenerationalHandle, OptionalHandle};
+use handles::GenerationalHandle;
 use maps::bindings::Binding;
 use maps::captures::Capture;
 use maps::keys::BindingKey;
@@ -28,13 +28,13 @@ impl Pieces for GenerationalHandle {
     }
 }
 
-impl Pieces for OptionalHandle {
+impl Pieces for Option<GenerationalHandle> {
     ghost pieces = { optional_pieces };
 
     fn put(&self, line: &mut Line<'_>) {
         match self {
-            OptionalHandle::None => line.none(),
-            OptionalHandle::Some(handle) => handle.put(line),
+            None => line.none(),
+            Some(handle) => handle.put(line),
         }
     }
 }

@@ -3,14 +3,11 @@ use Rattle.std.specs.Prelude.{ℕ, List, [], ◌∷◌, ◌++◌}
 use Rattle.lists.specs.Tables.{entries_of}
 use Rattle.calls.specs.declared.call.CloseCall.{CloseCall}
 use Rattle.calls.specs.declared.call.CloseCall.TheVariants as close
-use Rattle.composition_close.specs.Reports.{releases, close_reports}
-use Rattle.composition_close.specs.declared.answer.CloseReports.{CloseReports}
+use Rattle.composition_close.specs.Reports.{releases, close_reports, CloseReports, SurfaceReleases}
 use Rattle.composition_close.specs.declared.answer.CompositionShutdownReport.{CompositionShutdownReport}
-use Rattle.composition_close.specs.declared.answer.ReleasedInput.{ReleasedInput}
 use Rattle.composition_close.specs.declared.answer.SurfaceCloseReport.{SurfaceCloseReport}
 use Rattle.composition_close.specs.declared.answer.SurfaceRelease.{SurfaceRelease}
 use Rattle.composition_close.specs.declared.answer.SurfaceRelease.TheVariants.{Focus, PointerCapture, ImeComposition}
-use Rattle.composition_close.specs.declared.answer.SurfaceReleases.{SurfaceReleases}
 use Rattle.answer_numbers.specs.Groups.{handle_numbers, optional_numbers}
 use Rattle.answer_numbers.specs.Lists.{handles_numbers}
 use Rattle.answer_numbers.specs.Numbers.{Number, plain, list_numbers}
@@ -21,8 +18,8 @@ release_number Focus = 0
 release_number PointerCapture = 1
 release_number ImeComposition = 2
 
-abbrev pub released_numbers : ReleasedInput → List Number
-released_numbers e = plain (release_number e.release) ∷ []
+abbrev pub released_numbers : SurfaceRelease → List Number
+released_numbers e = plain (release_number e) ∷ []
 
 -- what a panel let go: n, n × release
 abbrev pub releases_numbers : SurfaceReleases → List Number

@@ -1,6 +1,5 @@
 -- Numbers, or none, put into a buffer at a place.
-use Rattle.std.specs.Prelude.{ℕ, List, [], ◌∷◌}
-use Rattle.std.proofs.Math.Option.{Option, none, some}
+use Rattle.std.specs.Prelude.{ℕ, List, [], ◌∷◌, Option, None, Some}
 use Rattle.answer_text.specs.Put.{put}
 use Rattle.answer_numbers.specs.declared.sink.SinkKind.{SinkKind}
 use Rattle.answer_numbers.specs.declared.sink.SinkKind.TheVariants.{Column, Dump, Digest, Words}
@@ -16,5 +15,5 @@ none_placed Words s = s
 
 -- column 8, or the words behind a host's answer
 abbrev pub more_placed : SinkKind → Option (List Number) → List ℕ × ℕ → List ℕ × ℕ
-more_placed k none s = none_placed k s
-more_placed k (some l) s = placed k l s
+more_placed k None s = none_placed k s
+more_placed k (Some l) s = placed k l s

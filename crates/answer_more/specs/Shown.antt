@@ -1,6 +1,5 @@
 -- What a call shows beside its handle, its lists and its report.
-use Rattle.std.specs.Prelude.{List, [], ◌∷◌, ◌++◌}
-use Rattle.std.proofs.Math.Option.{Option, none, some}
+use Rattle.std.specs.Prelude.{List, [], ◌∷◌, ◌++◌, Option, None, Some}
 use Rattle.records.specs.Views.{view_at}
 use Rattle.composition_state.specs.declared.registry.CompositionRegistry.{CompositionRegistry}
 use Rattle.composition_hits.specs.HitTest.{view_hits}
@@ -26,15 +25,15 @@ shown_counts c =
 
 -- a window stands in column 7
 abbrev pub shown_more : Shown → CompositionRegistry → Option (List Number)
-shown_more shown.Nothing r = none
-shown_more (shown.Window w) r = none
-shown_more (shown.Metrics m) r = some (metrics_numbers m)
-shown_more (shown.InputState s) r = some (input_state_numbers s)
-shown_more (shown.Captures v) r = some (captures_numbers (view_at r.views v).pointer_captures)
-shown_more (shown.Descriptor d) r = some (descriptor_numbers d)
-shown_more (shown.Layers v) r = some (view_layers_numbers (view_at r.views v).surfaces r.surfaces)
-shown_more shown.Traces r = some (traces_numbers r.traces)
-shown_more (shown.Counts c) r = some (shown_counts c)
-shown_more (shown.BindingCount n) r = some (plain n ∷ [])
-shown_more (shown.Hits a) r = some (shown_hits r a)
-shown_more (shown.Local p) r = some (local_numbers p)
+shown_more shown.Nothing r = None
+shown_more (shown.Window w) r = None
+shown_more (shown.Metrics m) r = Some (metrics_numbers m)
+shown_more (shown.InputState s) r = Some (input_state_numbers s)
+shown_more (shown.Captures v) r = Some (captures_numbers (view_at r.views v).pointer_captures)
+shown_more (shown.Descriptor d) r = Some (descriptor_numbers d)
+shown_more (shown.Layers v) r = Some (view_layers_numbers (view_at r.views v).surfaces r.surfaces)
+shown_more shown.Traces r = Some (traces_numbers r.traces)
+shown_more (shown.Counts c) r = Some (shown_counts c)
+shown_more (shown.BindingCount n) r = Some (plain n ∷ [])
+shown_more (shown.Hits a) r = Some (shown_hits r a)
+shown_more (shown.Local p) r = Some (local_numbers p)

@@ -3,7 +3,7 @@ ghost use Rattle.std.specs.Prelude.{ℕ, List, ◌≡◌};
 ghost use Rattle.answer_numbers.specs.Writers.{placed, written};
 ghost use Rattle.answer_more.specs.Closing.{release_number, releases_numbers, close_numbers, report_numbers, reports_numbers, shutdown_numbers, closing_numbers};
 
-use answer_numbers::numbered::{Numbered, front, put_numbers};
+use answer_numbers::numbered::{Numbered, put_numbers};
 use answer_numbers::sink::SinkKind;
 use answer_numbers::writer::Writer;
 use calls::call::CloseCall;
@@ -14,20 +14,16 @@ use composition_close::answer::{
 fn release_number(release: SurfaceRelease) -> u64
     ensures { result ≡ release_number release }
 {
-    match release {
-        SurfaceRelease::Focus => 0,
-        SurfaceRelease::PointerCapture => 1,
-        SurfaceRelease::ImeComposition => 2,
-    }
+    release as u64
 }
 
 fn write_releases(list: &SurfaceReleases, to: &mut Writer<'_>)
     ensures { to.new ≡ written (releases_numbers list.now) to.old }
 {
-    let entries = front(&list.items, list.len);
+    let entries = list.entries();
     entries.len().write(to);
     for entry in entries {
-        to.plain(release_number(entry.release));
+        to.plain(release_number(*entry));
     }
 }
 
@@ -51,7 +47,7 @@ fn write_report(report: &SurfaceCloseReport, to: &mut Writer<'_>)
 fn write_reports(list: &CloseReports, to: &mut Writer<'_>)
     ensures { to.new ≡ written (reports_numbers list.now) to.old }
 {
-    let reports = front(&list.items, list.len);
+    let reports = list.entries();
     reports.len().write(to);
     for report in reports {
         write_report(report, to);

@@ -12,14 +12,14 @@ use answer_numbers::numbered::{Numbered, put_numbers};
 use answer_numbers::sink::SinkKind;
 use answer_numbers::writer::Writer;
 use calls::call::{Call, RouterCall};
-use composition_input::answer::OptionalInputState;
 use counter::answer::Answer;
 use counter::step::Counter;
 use input_releases::answer::RouteKind;
+use records::view::ViewInputState;
 
 // What a view's loss let go.
 #[derive(Clone, Copy)]
-struct Loss<'a>(&'a OptionalInputState);
+struct Loss<'a>(&'a Option<ViewInputState>);
 
 impl Numbered for Loss<'_> {
     ghost numbers = { λ l. loss_numbers l.0.now };
@@ -27,8 +27,8 @@ impl Numbered for Loss<'_> {
     fn write(&self, to: &mut Writer<'_>) {
         to.plain(2);
         match self.0 {
-            OptionalInputState::None => {}
-            OptionalInputState::Some(state) => state.write(to),
+            None => {}
+            Some(state) => state.write(to),
         }
     }
 }
@@ -39,7 +39,7 @@ fn put_event(
     at: usize,
     kind: SinkKind,
     route: RouteKind,
-    state: OptionalInputState,
+    state: Option<ViewInputState>,
 ) -> usize
     ensures { ◌≡◌ {A = List ℕ × ℕ} (out.new, result)
         (more_placed kind (event_more route state) (out.old, at)) }
@@ -58,7 +58,7 @@ fn put_routed(
     kind: SinkKind,
     call: RouterCall,
     route: RouteKind,
-    state: OptionalInputState,
+    state: Option<ViewInputState>,
 ) -> usize
     ensures { ◌≡◌ {A = List ℕ × ℕ} (out.new, result)
         (more_placed kind (router_more call route state) (out.old, at)) }
@@ -81,7 +81,7 @@ pub fn put_more(
     ensures { ◌≡◌ {A = List ℕ × ℕ} (out.new, result)
         (more_placed kind (more_of call answer counter) (out.old, at)) }
 {
-    if !answer.outcome.is_accepted() {
+    if !answer.outcome.is_ok() {
         return put_none(out, at, kind);
     }
     match call {

@@ -1,19 +1,14 @@
 -- The groups of numbers of the format: handles, pointers, rectangles, metrics, input states, descriptors.
-use Rattle.std.specs.Prelude.{ℕ, List, [], ◌∷◌, ◌++◌}
+use Rattle.geometry.specs.declared.rect.SurfaceRect.{SurfaceRect}
+use Rattle.std.specs.Prelude.{ℕ, List, [], ◌∷◌, ◌++◌, Option, None, Some}
 use Rattle.handles.specs.declared.GenerationalHandle.{GenerationalHandle}
-use Rattle.handles.specs.declared.OptionalHandle.{OptionalHandle}
-use Rattle.handles.specs.declared.OptionalHandle.TheVariants as O
 use Rattle.maps.specs.declared.keys.CompositionPointerId.{CompositionPointerId}
 use Rattle.maps.specs.declared.captures.Capture.{Capture}
 use Rattle.geometry.specs.declared.metrics.ViewInsets.{ViewInsets}
 use Rattle.geometry.specs.declared.metrics.ViewMetrics.{ViewMetrics}
 use Rattle.geometry.specs.declared.metrics.ViewVisibility.{ViewVisibility}
 use Rattle.geometry.specs.declared.metrics.ViewVisibility.TheVariants.{Visible, Hidden, Suspended}
-use Rattle.geometry.specs.declared.rect.OptionalRect.{OptionalRect}
-use Rattle.geometry.specs.declared.rect.OptionalRect.TheVariants as R
 use Rattle.geometry.specs.declared.surface.SurfaceGeometry.{SurfaceGeometry}
-use Rattle.geometry.specs.declared.transform.LocalPoint.{LocalPoint}
-use Rattle.geometry.specs.declared.transform.LocalPoint.TheVariants.{At, Skipped}
 use Rattle.geometry.specs.declared.transform.Point.{Point}
 use Rattle.geometry.specs.declared.transform.SurfaceTransform.{SurfaceTransform}
 use Rattle.records.specs.declared.surface.SurfaceDescriptor.{SurfaceDescriptor}
@@ -29,9 +24,9 @@ abbrev pub handle_numbers : GenerationalHandle → List Number
 handle_numbers h = plain h.index ∷ plain h.generation ∷ []
 
 -- O: a flag, and the handle or zeros
-abbrev pub optional_numbers : OptionalHandle → List Number
-optional_numbers O.None = plain 0 ∷ plain 0 ∷ plain 0 ∷ []
-optional_numbers (O.Some h) = plain 1 ∷ handle_numbers h
+abbrev pub optional_numbers : Option GenerationalHandle → List Number
+optional_numbers None = plain 0 ∷ plain 0 ∷ plain 0 ∷ []
+optional_numbers (Some h) = plain 1 ∷ handle_numbers h
 
 -- K: device, device generation, contact
 abbrev pub pointer_numbers : CompositionPointerId → List Number
@@ -42,9 +37,9 @@ abbrev pub capture_numbers : Capture → List Number
 capture_numbers e = pointer_numbers e.pointer ++ handle_numbers e.surface
 
 -- R: a flag, and the rectangle or zeros
-abbrev pub rect_numbers : OptionalRect → List Number
-rect_numbers R.None = plain 0 ∷ plain 0 ∷ plain 0 ∷ plain 0 ∷ plain 0 ∷ []
-rect_numbers (R.Some r) =
+abbrev pub rect_numbers : Option SurfaceRect → List Number
+rect_numbers None = plain 0 ∷ plain 0 ∷ plain 0 ∷ plain 0 ∷ plain 0 ∷ []
+rect_numbers (Some r) =
     plain 1 ∷ signed r.x_milli ∷ signed r.y_milli ∷ plain r.width_milli ∷ plain r.height_milli ∷ []
 
 -- ViewVisibility: Visible, Hidden, Suspended, from 0
@@ -125,6 +120,6 @@ abbrev pub point_numbers : Point → List Number
 point_numbers p = plain 1 ∷ signed p.x_milli ∷ signed p.y_milli ∷ []
 
 -- three zeros where the panel is skipped
-abbrev pub local_numbers : LocalPoint → List Number
-local_numbers (At p) = point_numbers p
-local_numbers Skipped = plain 0 ∷ plain 0 ∷ plain 0 ∷ []
+abbrev pub local_numbers : Option Point → List Number
+local_numbers (Some p) = point_numbers p
+local_numbers None = plain 0 ∷ plain 0 ∷ plain 0 ∷ []

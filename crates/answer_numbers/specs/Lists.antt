@@ -2,9 +2,9 @@
 use Rattle.std.specs.Prelude.{List}
 use Rattle.lists.specs.Tables.{entries_of}
 use Rattle.handles.specs.Slots.{handles_table}
-use Rattle.handles.specs.declared.arena.Handles.{Handles}
-use Rattle.records.specs.Layers.{layers}
-use Rattle.records.specs.declared.layers.Layers.{Layers}
+use Rattle.handles.specs.declared.GenerationalHandle.{GenerationalHandle}
+use Rattle.lists.specs.declared.table.Table.{Table}
+use Rattle.records.specs.Layers.{layers, Layers}
 use Rattle.answer_numbers.specs.Numbers.{Number, list_numbers}
 use Rattle.answer_numbers.specs.Groups.{handle_numbers}
 
@@ -13,5 +13,5 @@ abbrev pub layers_numbers : Layers → List Number
 layers_numbers t = list_numbers handle_numbers (entries_of layers t)
 
 -- a list of handles: n, n × H
-abbrev pub handles_numbers : Handles → List Number
+abbrev pub handles_numbers : Table GenerationalHandle 64 → List Number
 handles_numbers t = list_numbers handle_numbers (entries_of handles_table t)

@@ -2,14 +2,12 @@
 use Rattle.std.specs.Prelude.{ℕ, Bool, List, [], ◌∷◌, ◌++◌, eqb, get_or}
 use Rattle.lists.specs.Lists.{keep}
 use Rattle.lists.specs.Tables.{entries_of}
-use Rattle.records.specs.Shortcuts.{shortcuts}
-use Rattle.records.specs.Surfaces.{no_surface}
+use Rattle.records.specs.Shortcuts.{shortcuts, Shortcuts}
+use Rattle.records.specs.Surfaces.{no_surface, SurfaceTable}
 use Rattle.records.specs.declared.shortcut.ShortcutScope.{ShortcutScope}
 use Rattle.records.specs.declared.shortcut.ShortcutScope.TheVariants.{View, Window, Session}
-use Rattle.records.specs.declared.shortcut.Shortcuts.{Shortcuts}
 use Rattle.records.specs.declared.shortcut.SlotShortcut.{SlotShortcut}
 use Rattle.records.specs.declared.surface.SurfaceRecord.{SurfaceRecord}
-use Rattle.records.specs.declared.surface.SurfaceTable.{SurfaceTable}
 use Rattle.answer_numbers.specs.Groups.{descriptor_numbers}
 use Rattle.answer_numbers.specs.Numbers.{Number, plain, signed, list_numbers}
 use Rattle.answer_numbers.specs.Arenas.{arena_numbers}

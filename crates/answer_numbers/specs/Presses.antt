@@ -2,16 +2,14 @@
 use Rattle.std.specs.Prelude.{ℕ, Bool, List, [], ◌∷◌, ◌++◌, eqb}
 use Rattle.lists.specs.Lists.{keep}
 use Rattle.lists.specs.Tables.{entries_of}
-use Rattle.maps.specs.Bindings.{bindings, key_of_binding}
+use Rattle.maps.specs.Bindings.{bindings, key_of_binding, Bindings}
 use Rattle.maps.specs.declared.bindings.Binding.{Binding}
-use Rattle.maps.specs.declared.bindings.Bindings.{Bindings}
 use Rattle.maps.specs.declared.keys.BindingKey.{BindingKey}
 use Rattle.maps.specs.declared.keys.BindingKey.TheVariants.{Pointer, Key, Gamepad}
 use Rattle.maps.specs.declared.keys.DeviceKey.{DeviceKey}
 use Rattle.maps.specs.declared.keys.InputDeviceId.{InputDeviceId}
-use Rattle.maps.specs.Sequences.{sequences}
+use Rattle.maps.specs.Sequences.{sequences, DeviceSequences}
 use Rattle.maps.specs.declared.sequences.DeviceSequence.{DeviceSequence}
-use Rattle.maps.specs.declared.sequences.DeviceSequences.{DeviceSequences}
 use Rattle.answer_numbers.specs.Groups.{handle_numbers, pointer_numbers}
 use Rattle.answer_numbers.specs.Numbers.{Number, plain, list_numbers}
 

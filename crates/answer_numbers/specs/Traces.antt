@@ -1,23 +1,19 @@
 -- The traces as numbers.
-use Rattle.std.specs.Prelude.{ℕ, List, [], ◌∷◌, ◌++◌}
+use Rattle.handles.specs.declared.GenerationalHandle.{GenerationalHandle}
+use Rattle.std.specs.Prelude.{ℕ, List, [], ◌∷◌, ◌++◌, Option, None}
 use Rattle.lists.specs.Tables.{entries_of}
-use Rattle.handles.specs.declared.OptionalHandle.{OptionalHandle}
-use Rattle.handles.specs.declared.OptionalHandle.TheVariants.{None}
 use Rattle.maps.specs.declared.keys.CompositionPointerId.{CompositionPointerId}
-use Rattle.records.specs.Traces.{hits, deliveries, traces}
+use Rattle.records.specs.Traces.{hits, deliveries, traces, Deliveries, Hits, Traces}
 use Rattle.records.specs.declared.trace.ArbitrationEvent.{ArbitrationEvent}
 use Rattle.records.specs.declared.trace.ArbitrationEvent.TheVariants as E
 use Rattle.records.specs.declared.trace.CompositionTrace.{CompositionTrace}
-use Rattle.records.specs.declared.trace.Deliveries.{Deliveries}
-use Rattle.records.specs.declared.trace.Hits.{Hits}
 use Rattle.records.specs.declared.trace.InputDelivery.{InputDelivery}
-use Rattle.records.specs.declared.trace.Traces.{Traces}
 use Rattle.answer_numbers.specs.Groups.{handle_numbers, optional_numbers, pointer_numbers}
 use Rattle.answer_numbers.specs.Numbers.{Number, plain, flag, list_numbers}
 use Rattle.answer_numbers.specs.declared.events.EventFields.{EventFields}
 
 -- the fields that every kind of event is written with
-abbrev pub fields_of : ℕ → CompositionPointerId → OptionalHandle → ℕ → EventFields
+abbrev pub fields_of : ℕ → CompositionPointerId → Option GenerationalHandle → ℕ → EventFields
 fields_of kind pointer target mask = record { kind = kind; pointer = pointer; target = target; class_mask = mask }
 
 -- no pointer: all 0

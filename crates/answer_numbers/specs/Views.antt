@@ -2,15 +2,11 @@
 use Rattle.std.specs.Prelude.{List, ◌++◌, get_or}
 use Rattle.lists.specs.Tables.{entries_of}
 use Rattle.handles.specs.declared.GenerationalHandle.{GenerationalHandle}
-use Rattle.maps.specs.Captures.{captures}
-use Rattle.maps.specs.declared.captures.PointerCaptures.{PointerCaptures}
-use Rattle.records.specs.Layers.{layers}
-use Rattle.records.specs.Surfaces.{descriptor_of}
-use Rattle.records.specs.Views.{no_view}
-use Rattle.records.specs.declared.layers.Layers.{Layers}
-use Rattle.records.specs.declared.surface.SurfaceTable.{SurfaceTable}
+use Rattle.maps.specs.Captures.{captures, PointerCaptures}
+use Rattle.records.specs.Layers.{layers, Layers}
+use Rattle.records.specs.Surfaces.{descriptor_of, SurfaceTable}
+use Rattle.records.specs.Views.{no_view, ViewTable}
 use Rattle.records.specs.declared.view.ViewRecord.{ViewRecord}
-use Rattle.records.specs.declared.view.ViewTable.{ViewTable}
 use Rattle.answer_numbers.specs.Groups.{handle_numbers, optional_numbers, capture_numbers, metrics_numbers, descriptor_numbers}
 use Rattle.answer_numbers.specs.Lists.{layers_numbers}
 use Rattle.answer_numbers.specs.Numbers.{Number, list_numbers}

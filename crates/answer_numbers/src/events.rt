@@ -1,11 +1,10 @@
 // An event as the fields that every kind is written with.
-ghost use Rattle.std.specs.Prelude.{◌≡◌};
-ghost use Rattle.handles.specs.declared.OptionalHandle.TheVariants.{None};
+ghost use Rattle.std.specs.Prelude.{◌≡◌, None};
 ghost use Rattle.answer_numbers.specs.Traces.{fields_of, no_pointer, event_fields, fields_numbers};
 
 use crate::numbered::Numbered;
 use crate::writer::Writer;
-use handles::OptionalHandle;
+use handles::GenerationalHandle;
 use maps::keys::CompositionPointerId;
 use records::trace::ArbitrationEvent;
 
@@ -14,7 +13,7 @@ use records::trace::ArbitrationEvent;
 pub struct EventFields {
     pub kind: u64,
     pub pointer: CompositionPointerId,
-    pub target: OptionalHandle,
+    pub target: Option<GenerationalHandle>,
     pub class_mask: u64,
 }
 
@@ -29,7 +28,7 @@ fn bare(kind: u64) -> EventFields
             device_generation: 0,
             contact: 0,
         },
-        target: OptionalHandle::None,
+        target: None,
         class_mask: 0,
     }
 }

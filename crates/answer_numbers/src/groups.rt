@@ -6,10 +6,10 @@ ghost use Rattle.answer_numbers.specs.Groups.{handle_numbers, optional_numbers, 
 use crate::numbered::Numbered;
 use crate::writer::Writer;
 use geometry::metrics::{ViewInsets, ViewMetrics, ViewVisibility};
-use geometry::rect::{OptionalRect, SurfaceRect};
+use geometry::rect::SurfaceRect;
 use geometry::surface::SurfaceGeometry;
-use geometry::transform::{LocalPoint, SurfaceTransform};
-use handles::{GenerationalHandle, OptionalHandle};
+use geometry::transform::{Point, SurfaceTransform};
+use handles::GenerationalHandle;
 use maps::captures::Capture;
 use maps::keys::CompositionPointerId;
 use records::surface::{SurfaceDescriptor, SurfaceInputPolicy, SurfaceKind};
@@ -26,17 +26,17 @@ impl Numbered for GenerationalHandle {
 }
 
 // O: a flag, then the handle or zeros.
-impl Numbered for OptionalHandle {
+impl Numbered for Option<GenerationalHandle> {
     ghost numbers = { optional_numbers };
 
     fn write(&self, to: &mut Writer<'_>) {
         match self {
-            OptionalHandle::None => {
+            None => {
                 to.plain(0);
                 to.plain(0);
                 to.plain(0);
             }
-            OptionalHandle::Some(handle) => {
+            Some(handle) => {
                 to.plain(1);
                 handle.write(to);
             }
@@ -66,19 +66,19 @@ impl Numbered for Capture {
 }
 
 // R: a flag, then the rectangle or zeros.
-impl Numbered for OptionalRect {
+impl Numbered for Option<SurfaceRect> {
     ghost numbers = { rect_numbers };
 
     fn write(&self, to: &mut Writer<'_>) {
         match self {
-            OptionalRect::None => {
+            None => {
                 to.plain(0);
                 to.plain(0);
                 to.plain(0);
                 to.plain(0);
                 to.plain(0);
             }
-            OptionalRect::Some(rect) => {
+            Some(rect) => {
                 to.plain(1);
                 rect.x_milli.write(to);
                 rect.y_milli.write(to);
@@ -93,11 +93,7 @@ impl Numbered for ViewVisibility {
     ghost numbers = { λ v. plain (visibility_number v) ∷ [] };
 
     fn write(&self, to: &mut Writer<'_>) {
-        to.plain(match self {
-            ViewVisibility::Visible => 0,
-            ViewVisibility::Hidden => 1,
-            ViewVisibility::Suspended => 2,
-        });
+        to.plain(*self as u64);
     }
 }
 
@@ -171,11 +167,7 @@ impl Numbered for SurfaceKind {
     ghost numbers = { λ k. plain (kind_number k) ∷ [] };
 
     fn write(&self, to: &mut Writer<'_>) {
-        to.plain(match self {
-            SurfaceKind::Game => 0,
-            SurfaceKind::Ui => 1,
-            SurfaceKind::Diagnostics => 2,
-        });
+        to.plain(*self as u64);
     }
 }
 
@@ -183,12 +175,7 @@ impl Numbered for SurfaceInputPolicy {
     ghost numbers = { λ p. plain (policy_number p) ∷ [] };
 
     fn write(&self, to: &mut Writer<'_>) {
-        to.plain(match self {
-            SurfaceInputPolicy::Observe => 0,
-            SurfaceInputPolicy::Passthrough => 1,
-            SurfaceInputPolicy::Interactive => 2,
-            SurfaceInputPolicy::Exclusive => 3,
-        });
+        to.plain(*self as u64);
     }
 }
 
@@ -207,17 +194,17 @@ impl Numbered for SurfaceDescriptor {
 }
 
 // A point in a panel: a flag, then the point or zeros.
-impl Numbered for LocalPoint {
+impl Numbered for Option<Point> {
     ghost numbers = { local_numbers };
 
     fn write(&self, to: &mut Writer<'_>) {
         match self {
-            LocalPoint::At(point) => {
+            Some(point) => {
                 to.plain(1);
                 point.x_milli.write(to);
                 point.y_milli.write(to);
             }
-            LocalPoint::Skipped => {
+            None => {
                 to.plain(0);
                 to.plain(0);
                 to.plain(0);

@@ -5,11 +5,11 @@
 pub mod arenas;
 pub mod events;
 pub mod groups;
-pub mod handle_lists;
 pub mod numbered;
 pub mod panels;
 pub mod presses;
 pub mod sink;
+pub mod tables;
 pub mod traces;
 pub mod views;
 pub mod word;

@@ -6,20 +6,18 @@ ghost use Rattle.answer_numbers.specs.Writers.{written};
 ghost use Rattle.answer_numbers.specs.Panels.{scope_number, registration_numbers, registrations_numbers, panel_numbers};
 
 use crate::arenas::SlotValues;
-use crate::numbered::{Grouped, Numbered, front, write_group};
+use crate::numbered::{Grouped, Numbered, write_group};
 use crate::writer::Writer;
+use lists::array::item_or;
+use lists::table::Blank;
 use records::shortcut::{ShortcutScope, Shortcuts, SlotShortcut};
-use records::surface::{SurfaceTable, record_at};
+use records::surface::{SurfaceRecord, SurfaceTable};
 
 impl Numbered for ShortcutScope {
     ghost numbers = { λ s. plain (scope_number s) ∷ [] };
 
     fn write(&self, to: &mut Writer<'_>) {
-        to.plain(match self {
-            ShortcutScope::View => 0,
-            ShortcutScope::Window => 1,
-            ShortcutScope::Session => 2,
-        });
+        to.plain(*self as u64);
     }
 }
 
@@ -42,11 +40,10 @@ impl Grouped for SlotShortcut {
 }
 
 // The registrations of the panel in a slot, in the order given.
-#[tactic(auto, unfolding(lists::specs::Tables::entries_of))]
 fn write_registrations(shortcuts: &Shortcuts, slot: usize, to: &mut Writer<'_>)
     ensures { to.new ≡ written (registrations_numbers slot shortcuts.now) to.old }
 {
-    write_group(front(&shortcuts.entries, shortcuts.len), slot, to);
+    write_group(shortcuts.entries(), slot, to);
 }
 
 // The panels with the registrations of all.
@@ -60,7 +57,8 @@ impl SlotValues for Panels<'_> {
     ghost value = { λ p i. panel_numbers i (get_or p.surfaces.now.records i no_surface) p.shortcuts.now };
 
     fn write_value(&self, i: usize, to: &mut Writer<'_>) {
-        record_at(self.surfaces.records, i).descriptor.write(to);
+        let panel = item_or(&self.surfaces.records, i, SurfaceRecord::BLANK);
+        panel.descriptor.write(to);
         write_registrations(self.shortcuts, i, to);
     }
 }

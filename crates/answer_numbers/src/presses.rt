@@ -2,13 +2,13 @@
 ghost use Rattle.std.specs.Prelude.{◌≡◌};
 ghost use Rattle.maps.specs.Bindings.{key_of_binding};
 ghost use Rattle.answer_numbers.specs.Writers.{written};
-ghost use Rattle.answer_numbers.specs.Presses.{device_numbers, device_key_numbers, key_numbers, press_numbers, presses_numbers, sequence_numbers, sequences_numbers};
+ghost use Rattle.answer_numbers.specs.Presses.{device_numbers, device_key_numbers, key_numbers, press_numbers, presses_numbers, sequence_numbers};
 
-use crate::numbered::{Grouped, Numbered, front, write_group, write_list};
+use crate::numbered::{Grouped, Numbered, write_group};
 use crate::writer::Writer;
 use maps::bindings::{Binding, Bindings};
 use maps::keys::{BindingKey, DeviceKey, InputDeviceId, binding_key};
-use maps::sequences::{DeviceSequence, DeviceSequences};
+use maps::sequences::DeviceSequence;
 
 impl Numbered for InputDeviceId {
     ghost numbers = { device_numbers };
@@ -58,11 +58,10 @@ impl Grouped for Binding {
 }
 
 // The presses of a kind, by rising key.
-#[tactic(auto, unfolding(lists::specs::Tables::entries_of))]
 pub fn write_presses(presses: &Bindings, kind: u32, to: &mut Writer<'_>)
     ensures { to.new ≡ written (presses_numbers kind presses.now) to.old }
 {
-    write_group(front(&presses.entries, presses.len), kind as usize, to);
+    write_group(presses.entries(), kind as usize, to);
 }
 
 impl Numbered for DeviceSequence {
@@ -71,15 +70,5 @@ impl Numbered for DeviceSequence {
     fn write(&self, to: &mut Writer<'_>) {
         self.device.write(to);
         self.sequence.write(to);
-    }
-}
-
-// The known devices, by rising key.
-impl Numbered for DeviceSequences {
-    ghost numbers = { sequences_numbers };
-
-    #[tactic(auto, unfolding(lists::specs::Tables::entries_of))]
-    fn write(&self, to: &mut Writer<'_>) {
-        write_list(front(&self.entries, self.len), to);
     }
 }

@@ -1,19 +1,10 @@
 // The numbers of traces.
-ghost use Rattle.answer_numbers.specs.Traces.{hits_numbers, delivery_numbers, deliveries_numbers, trace_numbers, traces_numbers};
+ghost use Rattle.answer_numbers.specs.Traces.{delivery_numbers, trace_numbers};
 
 use crate::events::EventFields;
-use crate::numbered::{Numbered, front, write_list};
+use crate::numbered::Numbered;
 use crate::writer::Writer;
-use records::trace::{CompositionTrace, Deliveries, Hits, InputDelivery, Traces};
-
-impl Numbered for Hits {
-    ghost numbers = { hits_numbers };
-
-    #[tactic(auto, unfolding(lists::specs::Tables::entries_of))]
-    fn write(&self, to: &mut Writer<'_>) {
-        write_list(front(&self.items, self.len), to);
-    }
-}
+use records::trace::{CompositionTrace, InputDelivery};
 
 impl Numbered for InputDelivery {
     ghost numbers = { delivery_numbers };
@@ -21,15 +12,6 @@ impl Numbered for InputDelivery {
     fn write(&self, to: &mut Writer<'_>) {
         self.surface.write(to);
         self.observed.write(to);
-    }
-}
-
-impl Numbered for Deliveries {
-    ghost numbers = { deliveries_numbers };
-
-    #[tactic(auto, unfolding(lists::specs::Tables::entries_of))]
-    fn write(&self, to: &mut Writer<'_>) {
-        write_list(front(&self.items, self.len), to);
     }
 }
 
@@ -43,15 +25,5 @@ impl Numbered for CompositionTrace {
         self.hits.write(to);
         self.deliveries.write(to);
         self.consumed_by.write(to);
-    }
-}
-
-// The traces, oldest first.
-impl Numbered for Traces {
-    ghost numbers = { traces_numbers };
-
-    #[tactic(auto, unfolding(lists::specs::Tables::entries_of))]
-    fn write(&self, to: &mut Writer<'_>) {
-        write_list(front(&self.items, self.len), to);
     }
 }

@@ -1,25 +1,16 @@
 // The numbers of views, and of a view's captures and layers.
 ghost use Rattle.std.specs.Prelude.{get_or};
 ghost use Rattle.records.specs.Views.{no_view};
-ghost use Rattle.answer_numbers.specs.Views.{captures_numbers, view_layers_numbers, view_numbers};
+ghost use Rattle.answer_numbers.specs.Views.{view_layers_numbers, view_numbers};
 
 use crate::arenas::SlotValues;
-use crate::numbered::{Numbered, front, write_list};
+use crate::numbered::Numbered;
 use crate::writer::Writer;
-use maps::captures::PointerCaptures;
+use lists::array::item_or;
+use lists::table::Blank;
 use records::layers::Layers;
 use records::surface::SurfaceTable;
-use records::view::{ViewRecord, ViewTable, record_at};
-
-// The captured pointers with their panels, by rising key.
-impl Numbered for PointerCaptures {
-    ghost numbers = { captures_numbers };
-
-    #[tactic(auto, unfolding(lists::specs::Tables::entries_of))]
-    fn write(&self, to: &mut Writer<'_>) {
-        write_list(front(&self.entries, self.len), to);
-    }
-}
+use records::view::{ViewRecord, ViewTable};
 
 // The layers of a view and the table that has their descriptors.
 #[derive(Clone, Copy)]
@@ -33,7 +24,7 @@ impl Numbered for DescribedLayers<'_> {
     ghost numbers = { λ d. view_layers_numbers d.layers.now d.surfaces.now };
 
     fn write(&self, to: &mut Writer<'_>) {
-        let layers = front(&self.layers.items, self.layers.len);
+        let layers = self.layers.entries();
         layers.len().write(to);
         for layer in layers {
             layer.write(to);
@@ -60,6 +51,7 @@ impl SlotValues for ViewTable {
     ghost value = { λ t i. view_numbers (get_or t.records i no_view) };
 
     fn write_value(&self, i: usize, to: &mut Writer<'_>) {
-        record_at(self.records, i).write(to);
+        let view = item_or(&self.records, i, ViewRecord::BLANK);
+        view.write(to);
     }
 }

@@ -1,4 +1,6 @@
 -- What a close and a shutdown show: a report has at most 10 numbers, an array has 256 of them, and 64 slots 64 handles.
+use Rattle.records.specs.Errors.{Outcome}
+use Rattle.std.specs.Prelude.{is_ok, Ok, Err}
 use Prim.Native.Nat.{ℕ, zero, suc, ◌≤◌}
 use mathlib.Core.Bool.{Bool, true, false, cond}
 use mathlib.Core.List.{List, [], ◌∷◌, ◌++◌, reverse}
@@ -12,31 +14,24 @@ use Rattle.handles.specs.Slots.{slot_at, used_places, handles_at, handles_below,
 use Rattle.handles.specs.declared.GenerationalHandle.{GenerationalHandle}
 use Rattle.handles.specs.declared.arena.Arena.{Arena}
 use Rattle.records.specs.Layers.{layers}
-use Rattle.records.specs.Views.{view_at, view_slots}
-use Rattle.records.specs.Errors.{is_accepted}
-use Rattle.records.specs.declared.surface.SurfaceTable.{SurfaceTable}
-use Rattle.records.specs.declared.view.ViewTable.{ViewTable}
-use Rattle.records.specs.declared.error.Outcome.{Outcome}
-use Rattle.records.specs.declared.error.Outcome.TheVariants.{Accepted, Refused}
+use Rattle.records.specs.Views.{view_at, view_slots, ViewTable}
+use Rattle.records.specs.Surfaces.{SurfaceTable}
 use Rattle.composition_state.specs.declared.registry.CompositionRegistry.{CompositionRegistry}
 use Rattle.composition_state.specs.Damage.{view_handle}
-use Rattle.composition_close.specs.declared.answer.CloseReports.{CloseReports}
+use Rattle.composition_close.specs.Reports.{CloseReports, releases, release_list, no_report, close_reports, no_shutdown}
 use Rattle.composition_close.specs.declared.answer.CompositionShutdownReport.{CompositionShutdownReport}
 use Rattle.composition_close.specs.declared.answer.SurfaceCloseReport.{SurfaceCloseReport}
 use Rattle.composition_close.specs.declared.shutdown.Closing.{Closing}
-use Rattle.composition_close.specs.Close.{close_refusal, close_settled, close_after, close_surface}
+use Rattle.composition_close.specs.Close.{closed_report, close_refusal, close_settled, close_after, close_surface}
 use Rattle.composition_close.specs.Detach.{had_ime, had_capture, had_focus, own_view, close_report}
-use Rattle.composition_close.specs.Reports.{releases, release_list, no_report, close_reports, no_shutdown}
 use Rattle.composition_close.proofs.ShutdownLaws.{few_places}
-use Rattle.composition_close.specs.Shutdown.{layer_closed, layers_closed, whole_view_closed, view_closed_at, views_closed}
-use Rattle.composition_close.specs.Shutdown.{shutdown_refusal, shut_down, shutdown_after, shutdown_of}
+use Rattle.composition_close.specs.Shutdown.{shutdown_report, layer_closed, layers_closed, whole_view_closed, view_closed_at, views_closed, shutdown_refusal, shut_down, shutdown_after, shutdown_of}
 use Rattle.answer_numbers.specs.Groups.{handle_numbers, optional_numbers}
 use Rattle.answer_numbers.specs.Lists.{handles_numbers}
 use Rattle.answer_numbers.specs.Numbers.{plain, list_numbers}
 use Rattle.answer_more.specs.Closing.{released_numbers, close_numbers, report_numbers, reports_numbers, shutdown_numbers}
 use Rattle.answer_words.specs.Lengths.{All}
-use Rattle.answer_words.proofs.EntryLaws.{all_take, all_set, all_same, all_more, list_few, list_fixed}
-use Rattle.answer_words.proofs.EntryLaws.{packed_few, few_if, below_few}
+use Rattle.answer_words.proofs.EntryLaws.{all_take, all_set, all_same, all_more, list_few, list_fixed, packed_few, given_few, few_if, below_few}
 use Rattle.answer_words.proofs.SizeLaws.{optional_size}
 
 -- ---- a report
@@ -73,19 +68,15 @@ close_size x h =
 report_size : (x : SurfaceCloseReport) → FewReleases x → length (report_numbers x) ≤ 10
 report_size x h = rw (length-append (close_numbers x) (plain x.revision ∷ [])) (omega (arith, close_size x h))
 
-if_few : (b : Bool) (x y : SurfaceCloseReport) → FewReleases x → FewReleases y → FewReleases (cond b x y)
-if_few true x y h k = h
-if_few false x y h k = k
-
-closed_few : (o : Outcome) (r : CompositionRegistry) (h : GenerationalHandle) → FewReleases (close_after o r h).report
-closed_few Accepted r h =
-    if_few (is_accepted (close_settled r h).outcome) _ no_report (report_few r.surfaces r.views h _) blank_few
-closed_few (Refused e) r h = blank_few
+closed_few : (o : Outcome) (r : CompositionRegistry) (h : GenerationalHandle) → FewReleases (closed_report (close_after o r h))
+closed_few (Ok _) r h =
+    given_few FewReleases (close_settled r h).outcome _ no_report (report_few r.surfaces r.views h _) blank_few
+closed_few (Err e) r h = blank_few
 
 pub closed_size : (r : CompositionRegistry) (h : GenerationalHandle)
-    → length (close_numbers (close_surface r h).report) ≤ 7
+    → length (close_numbers (closed_report (close_surface r h))) ≤ 7
 unfolding close_surface
-closed_size r h = close_size (close_surface r h).report (closed_few (close_refusal r h) r h)
+closed_size r h = close_size (closed_report (close_surface r h)) (closed_few (close_refusal r h) r h)
 
 -- ---- the reports of a shutdown
 record Reported (t : CloseReports) : Type 0 where
@@ -158,18 +149,18 @@ parts_size x a b c =
     let windows = handles_numbers x.closed_windows in
     rw (length-append surfaces (views ++ windows), length-append views windows) (omega arith)
 
-down_size : (o : Outcome) (r : CompositionRegistry) → length (shutdown_numbers (shutdown_after o r).report) ≤ 2819
+down_size : (o : Outcome) (r : CompositionRegistry) → length (shutdown_numbers (shutdown_report (shutdown_after o r))) ≤ 2819
 unfolding shut_down views_closed
-down_size Accepted r =
+down_size (Ok _) r =
     let start : Closing = record { registry = r; reports = packed close_reports [] } in
-    parts_size (shut_down r).report
+    parts_size (shutdown_report (shut_down r))
     (reports_size (views_closed r).reports (views_reported (view_slots r.views) start none_reported))
     (handles_size (live_handles r.views.arena) (live_few r.views.arena))
     (handles_size (live_handles r.windows) (live_few r.windows))
-down_size (Refused e) r =
+down_size (Err e) r =
     let none = handles_size [] (omega arith) in
     parts_size no_shutdown (reports_size (packed close_reports []) none_reported) none none
 
-pub shutdown_size : (r : CompositionRegistry) → length (shutdown_numbers (shutdown_of r).report) ≤ 2819
+pub shutdown_size : (r : CompositionRegistry) → length (shutdown_numbers (shutdown_report (shutdown_of r))) ≤ 2819
 unfolding shutdown_of
 shutdown_size r = down_size (shutdown_refusal r) r

@@ -11,6 +11,8 @@ use Rattle.lists.specs.Tables.{Shape, entries_of, packed}
 use Rattle.lists.proofs.TableLaws.{entries_packed}
 use Rattle.answer_numbers.specs.Numbers.{Number, each, list_numbers}
 use Rattle.answer_words.specs.Lengths.{All}
+use Rattle.std.specs.Prelude.{Result, Ok, Err}
+use Rattle.std.specs.Result.{result_and, result_unwrap_or}
 
 module _ {E : Type 0} (P : E → Type 0) where
   pub all_given : ((e : E) → P e) → (l : List E) → All P l
@@ -66,6 +68,11 @@ module _ {E T : Type 0} (s : Shape E T) where
   -- a table that holds a list has as many
   pub packed_few : (l : List E) (n : ℕ) → length l ≤ n → length (entries_of s (packed s l)) ≤ n
   packed_few l n h = rw (entries_packed s l) h
+
+-- what an answer has, which is blank where it is refused
+pub given_few : {T E : Type 0} (P : T → Type 0) (o : Result (Unit {0}) E) (v blank : T) → P v → P blank → P (result_unwrap_or (result_and o (Ok v)) blank)
+given_few P (Ok _) v blank h k = h
+given_few P (Err e) v blank h k = k
 
 -- a list that stands if a test holds
 pub few_if : {E : Type 0} (b : Bool) (l : List E) (n : ℕ) → length l ≤ n → length (cond b l []) ≤ n

@@ -1,38 +1,33 @@
 -- All list of an answer of `step` keeps to its call's bound, call by call; so its words are at most 4,608.
+use Rattle.input_events.specs.RouterErrors.{RouterOutcome}
+use Rattle.records.specs.declared.view.ViewInputState.{ViewInputState}
+use Rattle.geometry.specs.declared.metrics.ViewMetrics.{ViewMetrics}
+use Rattle.handles.specs.declared.GenerationalHandle.{GenerationalHandle}
+use Rattle.geometry.specs.declared.transform.Point.{Point}
+use Rattle.std.specs.Prelude.{is_ok, Option, None, Some}
 use Prim.Native.Nat.{ℕ, ◌+◌, ◌≤◌}
 use mathlib.Core.Bool.{Bool, true, false, cond}
 use mathlib.Core.List.{List, [], ◌++◌}
-use mathlib.Core.Option.{Option, none}
 use mathlib.Core.Path.{◌≡◌, ◌∙◌}
 use native.Mathlib.Omega.{arith}
 use lib.ListN.{length, length-append, length-map}
 use Rattle.lists.specs.Tables.{entries_of, packed}
-use Rattle.geometry.specs.declared.transform.LocalPoint.{LocalPoint}
-use Rattle.geometry.specs.declared.transform.LocalPoint.TheVariants.{At, Skipped}
-use Rattle.handles.specs.declared.OptionalHandle.{OptionalHandle}
 use Rattle.maps.specs.Captures.{captures}
 use Rattle.records.specs.Layers.{layers}
 use Rattle.records.specs.Traces.{deliveries}
 use Rattle.records.specs.Views.{view_at}
 use Rattle.release_lists.specs.Captures.{capture_list}
 use Rattle.release_lists.specs.Releases.{releases}
-use Rattle.composition_panels.specs.declared.answer.OptionalMetrics.{OptionalMetrics}
-use Rattle.composition_panels.specs.declared.answer.OptionalMetrics.TheVariants as metrics
 use Rattle.composition_panels.specs.Metrics.{update_view_metrics}
-use Rattle.composition_input.specs.declared.answer.OptionalInputState.{OptionalInputState}
-use Rattle.composition_input.specs.declared.answer.OptionalInputState.TheVariants as state
 use Rattle.composition_input.specs.Focus.{suspend_view_input}
 use Rattle.composition_hits.specs.HitTest.{view_hits}
-use Rattle.composition_shortcuts.specs.declared.register.Registrations.{Registrations}
+use Rattle.composition_shortcuts.specs.Registrations.{Registrations}
 use Rattle.composition_state.specs.declared.registry.CompositionRegistry.{CompositionRegistry}
-use Rattle.input_events.specs.RouterErrors.{is_router_accepted}
-use Rattle.input_events.specs.declared.error.RouterOutcome.{RouterOutcome}
-use Rattle.input_releases.specs.Answers.{no_report}
+use Rattle.input_releases.specs.Answers.{report_of, no_report}
 use Rattle.input_releases.specs.declared.answer.RouteKind.{RouteKind}
 use Rattle.input_releases.specs.declared.answer.RouteKind.TheVariants as kind
 use Rattle.calls.specs.declared.call.Call.{Call}
-use Rattle.calls.specs.declared.call.Call.TheVariants.{Panel, Input, ReleaseDevice, Shortcut, Arbitrate, Close, Router}
-use Rattle.calls.specs.declared.call.Call.TheVariants.{Read}
+use Rattle.calls.specs.declared.call.Call.TheVariants.{Panel, Input, ReleaseDevice, Shortcut, Arbitrate, Close, Router, Read}
 use Rattle.calls.specs.declared.call.CloseCall.{CloseCall}
 use Rattle.calls.specs.declared.call.CloseCall.TheVariants as close
 use Rattle.calls.specs.declared.call.InputCall.{InputCall}
@@ -48,9 +43,9 @@ use Rattle.calls.specs.declared.shown.Shown.{Shown}
 use Rattle.calls.specs.declared.shown.Shown.TheVariants as shown
 use Rattle.input_route.specs.Route.{routed}
 use Rattle.registry_step.specs.Steps.{metrics_shown, state_shown, panel_step, input_step, shortcut_step}
-use Rattle.read_step.specs.Reads.{read_step}
-use Rattle.counter.specs.Answers.{nothing_listed, captures_listed, close_listed, shutdown_listed, arbitration_alone}
-use Rattle.counter.specs.Answers.{releases_alone}
+use Rattle.read_step.specs.Reads.{read_step, shown_of}
+use Rattle.std.specs.Result.{result_ok}
+use Rattle.counter.specs.Answers.{nothing_listed, captures_listed, close_listed, shutdown_listed, arbitration_alone, releases_alone}
 use Rattle.counter.specs.Step.{close_step, router_step, stepped}
 use Rattle.counter.specs.declared.answer.Answer.{Answer}
 use Rattle.counter.specs.declared.step.Counter.{Counter}
@@ -98,16 +93,16 @@ room (Read c) = omega arith
 
 -- ---- a refused call shows nothing, and what is not listed is a list of none
 shown_if_lem : (b : Bool) (o : Option (List Number)) (n : ℕ)
-    → length (shown_numbers o) ≤ n → length (shown_numbers (cond b o none)) ≤ n
+    → length (shown_numbers o) ≤ n → length (shown_numbers (cond b o None)) ≤ n
 shown_if_lem true o n h = h
 shown_if_lem false o n h = omega arith
 
 more_few : (call : Call) (a : Answer) (k : Counter) (n : ℕ)
     → length (shown_numbers (accepted_more call a k)) ≤ n → length (shown_numbers (more_of call a k)) ≤ n
 unfolding more_of
-more_few call a k n h = shown_if_lem (is_router_accepted a.outcome) (accepted_more call a k) n h
+more_few call a k n h = shown_if_lem (is_ok a.outcome) (accepted_more call a k) n h
 
-nothing_shown : length (shown_numbers none) ≤ 0
+nothing_shown : length (shown_numbers None) ≤ 0
 nothing_shown = omega arith
 
 no_deliveries : length (entries_of deliveries no_report.arbitration.deliveries) ≤ 0
@@ -124,9 +119,9 @@ no_captures = packed_few capture_list [] 0 (omega arith)
 abbrev size_of : Shown → CompositionRegistry → ℕ
 size_of s r = length (shown_numbers (shown_more s r))
 
-metrics_few : (m : OptionalMetrics) (after : CompositionRegistry) → size_of (metrics_shown m) after ≤ 13
-metrics_few metrics.None after = omega arith
-metrics_few (metrics.Some m) after = omega arith
+metrics_few : (m : Option ViewMetrics) (after : CompositionRegistry) → size_of (metrics_shown m) after ≤ 13
+metrics_few None after = omega arith
+metrics_few (Some m) after = omega arith
 
 panel_few : (r : CompositionRegistry) (c : PanelCall) (after : CompositionRegistry)
     → size_of (panel_step r c).shown after ≤ 13
@@ -135,15 +130,15 @@ panel_few r panel.CreateWindow after = omega arith
 panel_few r (panel.CloseWindow w) after = omega arith
 panel_few r (panel.CreateView w) after = omega arith
 panel_few r (panel.UpdateViewMetrics a) after =
-    metrics_few (update_view_metrics r a.view a.update a.revision).metrics after
+    metrics_few (result_ok (update_view_metrics r a.view a.update a.revision).outcome) after
 panel_few r (panel.CloseView v) after = omega arith
 panel_few r (panel.AttachSurface d) after = omega arith
 panel_few r (panel.UpdateSurfaceGeometry a) after = omega arith
 panel_few r (panel.UpdateSurfaceInputPolicy a) after = omega arith
 
-state_few : (s : OptionalInputState) (after : CompositionRegistry) → size_of (state_shown s) after ≤ 9
-state_few state.None after = omega arith
-state_few (state.Some s) after = omega (arith, state_size s)
+state_few : (s : Option ViewInputState) (after : CompositionRegistry) → size_of (state_shown s) after ≤ 9
+state_few None after = omega arith
+state_few (Some s) after = omega (arith, state_size s)
 
 input_few : (r : CompositionRegistry) (c : InputCall) (after : CompositionRegistry)
     → size_of (input_step r c).shown after ≤ 9
@@ -156,7 +151,7 @@ input_few r (input.ReleasePointerFor a) after = omega arith
 input_few r (input.BeginIme a) after = omega arith
 input_few r (input.EndIme a) after = omega arith
 input_few r (input.SuspendViewInput a) after =
-    state_few (suspend_view_input r a.handle a.revision).released after
+    state_few (result_ok (suspend_view_input r a.handle a.revision).outcome) after
 
 shortcut_few : (r : CompositionRegistry) (c : ShortcutCall) (l : Registrations) (after : CompositionRegistry)
     → size_of (shortcut_step r c l).shown after ≤ 0
@@ -165,19 +160,19 @@ shortcut_few r (shortcut.RegisterSet a) l after = omega arith
 shortcut_few r (shortcut.RegisterOne a) l after = omega arith
 shortcut_few r (shortcut.SetMask a) l after = omega arith
 
-loss_few : (s : OptionalInputState) → length (loss_numbers s) ≤ 10
-loss_few state.None = omega arith
-loss_few (state.Some s) = omega (arith, state_size s)
+loss_few : (s : Option ViewInputState) → length (loss_numbers s) ≤ 10
+loss_few None = omega arith
+loss_few (Some s) = omega (arith, state_size s)
 
-event_few : (k : RouteKind) (s : OptionalInputState) → length (shown_numbers (event_more k s)) ≤ 10
+event_few : (k : RouteKind) (s : Option ViewInputState) → length (shown_numbers (event_more k s)) ≤ 10
 event_few kind.Nothing s = omega arith
 event_few kind.Disconnected s = omega arith
 event_few kind.Arbitrated s = omega arith
 event_few kind.ViewReleased s = loss_few s
 
-local_few : (p : LocalPoint) → length (local_numbers p) ≤ 3
-local_few (At p) = omega arith
-local_few Skipped = omega arith
+local_few : (p : Option Point) → length (local_numbers p) ≤ 3
+local_few (Some p) = omega arith
+local_few None = omega arith
 
 module _ (k : Counter) (x : Lengths k) where
   shown_few : (s : Shown) → size_of s k.registry ≤ 3073
@@ -226,7 +221,7 @@ module _ (k : Counter) (x : Lengths k) where
   unfolding stepped router_step nothing_listed releases_alone
   router_bounded (router.Route e) l =
       let few = routed_few k.registry x.views k.router x.presses e in
-      let report = (routed k.registry k.router e).report in
+      let report = (report_of (routed k.registry k.router e)) in
       record {
         delivered = few.delivered;
         released = few.listed;
@@ -247,10 +242,10 @@ module _ (k : Counter) (x : Lengths k) where
   }
 
   -- an answer that lists nothing
-  abbrev blank : RouterOutcome → OptionalHandle → Shown → Answer
+  abbrev blank : RouterOutcome → Option GenerationalHandle → Shown → Answer
   blank o h s = record { outcome = o; handle = h; shown = s; report = no_report; listed = nothing_listed }
 
-  quiet : (n : ℕ) (c : Call) (o : RouterOutcome) (h : OptionalHandle) (s : Shown) (after : Counter)
+  quiet : (n : ℕ) (c : Call) (o : RouterOutcome) (h : Option GenerationalHandle) (s : Shown) (after : Counter)
       → length (shown_numbers (accepted_more c (blank o h s) after)) ≤ n
       → Bounded (most 0 0 0 n) c (blank o h s) after
   unfolding nothing_listed
@@ -281,7 +276,7 @@ module _ (k : Counter) (x : Lengths k) where
   bounded (Close c) l = close_bounded c l
   bounded (Router c) l = router_bounded c l
   bounded (Read c) l =
-      quiet 3073 (Read c) _ _ _ _ (shown_few (read_step k.registry k.router c).shown)
+      quiet 3073 (Read c) _ _ _ _ (shown_few (shown_of (read_step k.registry k.router c)))
 
   pub fits : (c : Call) (l : Lists) → length (step_words k c l) ≤ 4608
   fits c l =

@@ -1,4 +1,6 @@
 -- At most how many deliveries, captures and hits there are, from the lengths of the arrays that they are made from.
+use Rattle.std.specs.Prelude.{is_ok, Option, None, Some, Ok, Err}
+use Rattle.std.specs.Result.{result_and, result_unwrap_or}
 use Prim.Native.Nat.{ℕ, ◌≤◌}
 use mathlib.Core.Bool.{Bool, true, false}
 use mathlib.Core.List.{List, [], ◌∷◌, reverse}
@@ -11,32 +13,29 @@ use Rattle.lists.proofs.TableLaws as table
 use Rattle.geometry.specs.declared.transform.Point.{Point}
 use Rattle.handles.specs.Slots.{slot_at}
 use Rattle.handles.specs.declared.GenerationalHandle.{GenerationalHandle}
-use Rattle.handles.specs.declared.OptionalHandle.{OptionalHandle}
-use Rattle.handles.specs.declared.OptionalHandle.TheVariants.{None, Some}
 use Rattle.maps.specs.Captures.{captures}
-use Rattle.records.specs.Errors.{is_accepted}
 use Rattle.records.specs.Layers.{layers}
-use Rattle.records.specs.Traces.{deliveries}
-use Rattle.records.specs.Views.{no_view, view_at, view_slots}
+use Rattle.records.specs.Traces.{deliveries, Deliveries, Hits}
+use Rattle.records.specs.Views.{no_view, view_at, view_slots, ViewTable}
 use Rattle.records.specs.declared.trace.ArbitrationEvent.{ArbitrationEvent}
-use Rattle.records.specs.declared.trace.Deliveries.{Deliveries}
-use Rattle.records.specs.declared.trace.Hits.{Hits}
-use Rattle.records.specs.declared.view.ViewTable.{ViewTable}
 use Rattle.records.proofs.ViewLaws.{few_slots}
 use Rattle.view_panels.specs.Panels.{Panel, panels_in}
-use Rattle.release_lists.specs.Captures.{capture_list}
+use Rattle.release_lists.specs.Captures.{CaptureList, capture_list}
 use Rattle.composition_state.specs.declared.registry.CompositionRegistry.{CompositionRegistry}
 use Rattle.composition_state.specs.Damage.{view_handle}
-use Rattle.composition_input.specs.Captures.{is_of_device, taken_at, device_captures, device_settled}
-use Rattle.composition_input.specs.Captures.{release_device_pointer_captures}
+use Rattle.composition_state.specs.Registry.{settled}
+use Rattle.records.specs.Errors.{Outcome}
+use Rattle.composition_shortcuts.specs.Resolve.{resolved_outcome, resolved_panel}
+use Rattle.composition_arbitration.specs.declared.arbitrate.ArbitrationResult.{ArbitrationResult}
+use Rattle.input_releases.specs.Answers.{no_result}
+use Rattle.composition_input.specs.Captures.{listed_captures, is_of_device, taken_at, device_captures, device_settled, release_device_pointer_captures}
 use Rattle.composition_hits.specs.HitTest.{is_panel_hit, hits_among, view_hits}
 use Rattle.composition_arbitration.specs.declared.walk.Verdict.{Verdict}
 use Rattle.composition_arbitration.specs.declared.walk.Walked.{Walked}
-use Rattle.composition_arbitration.specs.Arbitration.{alone, or_alone, walk_over, walk_in, arbitration, own_hits, resolution}
-use Rattle.composition_arbitration.specs.Arbitration.{result_if, concluded, arbitrated}
+use Rattle.composition_arbitration.specs.Arbitration.{alone, or_alone, walk_over, walk_in, arbitration, own_hits, resolution, result_at, arbitrate_refusal, with_trace, trace_of, next_revision, concluded, arbitrated}
 use Rattle.composition_arbitration.specs.Layers.{delivers, consumes, until_consumed, walked, walk_of}
 use Rattle.answer_words.specs.Lengths.{All, ViewLengths}
-use Rattle.answer_words.proofs.EntryLaws.{all_get, packed_few, few_if, below_few}
+use Rattle.answer_words.proofs.EntryLaws.{given_few, all_get, packed_few, few_if, below_few}
 
 -- ---- who gets an event
 abbrev pub FewDelivered : Deliveries → Type 0
@@ -58,14 +57,14 @@ alone_few : (h : GenerationalHandle) → FewDelivered (alone h).deliveries
 unfolding alone
 alone_few h = packed_few deliveries _ 16 (omega arith)
 
-or_few : (o : OptionalHandle) (w : Walked) → FewDelivered w.deliveries → FewDelivered (or_alone o w).deliveries
+or_few : (o : Option GenerationalHandle) (w : Walked) → FewDelivered w.deliveries → FewDelivered (or_alone o w).deliveries
 or_few (Some h) w x = alone_few h
 or_few None w x = x
 
-result_few : (b : Bool) (n : ℕ) (w : Walked)
-    → FewDelivered w.deliveries → FewDelivered (result_if b n w).deliveries
-result_few true n w x = x
-result_few false n w x = packed_few deliveries [] 16 (omega arith)
+result_few : (o : Outcome) (x : ArbitrationResult)
+    → FewDelivered x.deliveries → FewDelivered (result_unwrap_or (result_and o (Ok x)) no_result).deliveries
+result_few (Ok _) x h = h
+result_few (Err e) x h = packed_few deliveries [] 16 (omega arith)
 
 -- ---- what the views hold
 module _ (views : ViewTable) (x : All ViewLengths views.records) where
@@ -94,12 +93,12 @@ module _ (views : ViewTable) (x : All ViewLengths views.records) where
 
 module _ (r : CompositionRegistry) (x : All ViewLengths r.views.records) where
   pub released_few : (device generation : ℕ)
-      → length (entries_of capture_list (release_device_pointer_captures r device generation).released) ≤ 512
+      → length (entries_of capture_list (listed_captures (release_device_pointer_captures r device generation))) ≤ 512
   unfolding release_device_pointer_captures
   released_few device generation =
       let settled = device_settled r device generation in
-      packed_few capture_list _ 512
-      (few_if (is_accepted settled.outcome) _ 512 (device_few r.views x device generation))
+      given_few (λ (l : CaptureList). length (entries_of capture_list l) ≤ 512) settled.outcome _ _
+      (packed_few capture_list _ 512 (device_few r.views x device generation)) (packed_few capture_list [] 512 (omega arith))
 
   panels_few : (view : GenerationalHandle) → length (panels_in r.views r.surfaces view) ≤ 16
   panels_few view = simp length-map (layers_few r.views x view)
@@ -111,13 +110,15 @@ module _ (r : CompositionRegistry) (x : All ViewLengths r.views.records) where
   walk_in_few view event h = walk_few _ _ (panels_few view)
 
   pub arbitrated_few : (view : GenerationalHandle) (event : ArbitrationEvent) (h : Hits)
-      → FewDelivered (arbitrated r view event h).result.deliveries
+      → FewDelivered (result_unwrap_or (arbitrated r view event h).outcome no_result).deliveries
   unfolding arbitrated concluded
   arbitrated_few view event h =
-      let a = arbitrated r view event h in
       let own = own_hits event h in
-      result_few (is_accepted a.outcome) a.registry.revision (arbitration r view event h)
-      (or_few (resolution r view event).surface (walk_in r view event own) (walk_in_few view event own))
+      let w = arbitration r view event h in
+      let found = resolution r view event in
+      let c = settled (arbitrate_refusal r view own (resolved_outcome found)) r (with_trace (trace_of (next_revision r.revision) view event own w) r) in
+      result_few c.outcome (result_at c.registry.revision w)
+      (or_few (resolved_panel found) (walk_in r view event own) (walk_in_few view event own))
 
   -- ---- a hit test
   pub hits_few : (view : GenerationalHandle) (p : Point) → length (view_hits r view p) ≤ 16

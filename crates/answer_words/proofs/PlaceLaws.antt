@@ -1,8 +1,8 @@
 -- Words in a buffer: numbers taken into a sink of words are put one by one, and with room for all they are their bytes.
+use Rattle.std.specs.Prelude.{Option, None, Some}
 use Prim.Native.Nat.{ℕ, ◌*◌, ◌≤◌}
 use mathlib.Core.Bool.{Bool, false}
 use mathlib.Core.List.{List, [], ◌∷◌, ◌++◌, flatten, map}
-use mathlib.Core.Option.{Option, none, some}
 use mathlib.Core.Path.{◌≡◌, refl, sym, ap, ◌∙◌}
 use native.Mathlib.Omega.{arith}
 use lib.ListN.{length, length-append}
@@ -36,8 +36,8 @@ numbers_put : (l : List Number) (s : List ℕ × ℕ) → placed Words l s ≡ p
 numbers_put l s = taken l s.0 s.1 _ _
 
 shown_put : (o : Option (List Number)) (s : List ℕ × ℕ) → more_placed Words o s ≡ put_all (pieces (shown_numbers o)) s
-shown_put none s = refl
-shown_put (some l) s = numbers_put l s
+shown_put None s = refl
+shown_put (Some l) s = numbers_put l s
 
 -- what is put as numbers and then as what is shown is put as one list of words
 pub words_put : (l : List Number) (o : Option (List Number)) (s : List ℕ × ℕ)

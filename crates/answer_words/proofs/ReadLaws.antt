@@ -1,4 +1,6 @@
 -- Words are read back from their bytes, and releases from words: what stands before them is passed over by its length.
+use Rattle.handles.specs.declared.GenerationalHandle.{GenerationalHandle}
+use Rattle.std.specs.Prelude.{Option, None, Some}
 use Prim.Native.Nat.{ℕ, zero, suc, ◌*◌, ◌/◌, ◌^◌, ◌<◌}
 use mathlib.Core.List.{List, [], ◌∷◌, ◌++◌, append_assoc, flatten, map}
 use mathlib.Core.Path.{◌≡◌, refl, ap, ◌∙◌}
@@ -8,17 +10,13 @@ use lib.ListN.{length, drop, length-map}
 use lib.Seq.{drop_at}
 use Rattle.lists.specs.Tables.{entries_of}
 use Rattle.lists.proofs.ListLaws.{map_append}
-use Rattle.handles.specs.declared.OptionalHandle.{OptionalHandle}
-use Rattle.handles.specs.declared.OptionalHandle.TheVariants as O
 use Rattle.maps.specs.Keys.{binding_key}
 use Rattle.maps.specs.declared.bindings.Binding.{Binding}
 use Rattle.maps.specs.declared.keys.BindingKey.{BindingKey}
 use Rattle.maps.specs.declared.keys.BindingKey.TheVariants.{Pointer, Key, Gamepad}
-use Rattle.records.specs.Traces.{deliveries}
-use Rattle.records.specs.declared.trace.Deliveries.{Deliveries}
+use Rattle.records.specs.Traces.{deliveries, Deliveries}
 use Rattle.records.specs.declared.trace.InputDelivery.{InputDelivery}
-use Rattle.release_lists.specs.declared.releases.Releases.{Releases}
-use Rattle.release_lists.specs.Releases.{releases}
+use Rattle.release_lists.specs.Releases.{Releases, releases}
 use Rattle.input_events.specs.RouterErrors.{router_number_of}
 use Rattle.calls.specs.declared.call.Call.{Call}
 use Rattle.counter.specs.declared.answer.Answer.{Answer}
@@ -28,8 +26,7 @@ use Rattle.answer_numbers.specs.Numbers.{Number, plain, dumped_number, each, lis
 use Rattle.answer_numbers.specs.Traces.{delivery_numbers, deliveries_numbers}
 use Rattle.answer_more.specs.More.{more_of}
 use Rattle.answer_columns.specs.Named.{handle_for}
-use Rattle.answer_words.specs.Answers.{release_numbers, releases_numbers, captures_numbers, shown_numbers}
-use Rattle.answer_words.specs.Answers.{answer_words, bytes_of}
+use Rattle.answer_words.specs.Answers.{release_numbers, releases_numbers, captures_numbers, shown_numbers, answer_words, bytes_of}
 use Rattle.answer_words.specs.Lengths.{All}
 use Rattle.answer_words.specs.Read.{number_read, words_read, key_read, releases_in, releases_from, releases_read}
 use Rattle.answer_words.proofs.EntryLaws.{each_long}
@@ -82,18 +79,18 @@ module _ (d : List InputDelivery) (l : List Binding) (more : List Number) where
 
 module _ (n r : ℕ) (d : Deliveries) (l : Releases) where
   -- an answer's numbers up to its releases, and others behind them
-  abbrev numbers : OptionalHandle → List Number → List Number
+  abbrev numbers : Option GenerationalHandle → List Number → List Number
   numbers o more =
       plain n ∷ plain r ∷ ((optional_numbers o ++ deliveries_numbers d) ++ (releases_numbers l ++ more))
 
-  read : (o : OptionalHandle) (more : List Number)
+  read : (o : Option GenerationalHandle) (more : List Number)
       → releases_read (map dumped_number (numbers o more)) ≡ entries_of releases l
   unfolding releases_read
-  read O.None more = from_there (entries_of deliveries d) (entries_of releases l) more
-  read (O.Some h) more = from_there (entries_of deliveries d) (entries_of releases l) more
+  read None more = from_there (entries_of deliveries d) (entries_of releases l) more
+  read (Some h) more = from_there (entries_of deliveries d) (entries_of releases l) more
 
   -- whatever stands behind the releases, among the answer's own numbers and behind them
-  behind_too : (o : OptionalHandle) (rest more : List Number)
+  behind_too : (o : Option GenerationalHandle) (rest more : List Number)
       → releases_read (map dumped_number (numbers o rest ++ more)) ≡ entries_of releases l
   behind_too o rest more =
       let front = optional_numbers o ++ deliveries_numbers d in

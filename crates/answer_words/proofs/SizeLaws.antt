@@ -1,22 +1,18 @@
 -- How many numbers each group of an answer has, by its fields; of a trace, by the lengths of its arrays.
+use Rattle.geometry.specs.declared.rect.SurfaceRect.{SurfaceRect}
+use Rattle.std.specs.Prelude.{Option, None, Some}
 use Prim.Native.Nat.{ℕ, ◌+◌, ◌*◌, ◌≤◌}
 use mathlib.Core.Path.{◌≡◌, refl}
 use native.Mathlib.Omega.{arith}
 use lib.ListN.{length, length-append}
 use Rattle.lists.specs.Tables.{entries_of}
 use Rattle.lists.proofs.TableLaws as table
-use Rattle.geometry.specs.declared.rect.OptionalRect.{OptionalRect}
-use Rattle.geometry.specs.declared.rect.OptionalRect.TheVariants as R
 use Rattle.geometry.specs.declared.surface.SurfaceGeometry.{SurfaceGeometry}
 use Rattle.handles.specs.declared.GenerationalHandle.{GenerationalHandle}
-use Rattle.handles.specs.declared.OptionalHandle.{OptionalHandle}
-use Rattle.handles.specs.declared.OptionalHandle.TheVariants as O
-use Rattle.records.specs.Surfaces.{descriptor_of}
-use Rattle.records.specs.Traces.{hits, deliveries, traces}
+use Rattle.records.specs.Surfaces.{descriptor_of, SurfaceTable}
+use Rattle.records.specs.Traces.{hits, deliveries, traces, Traces}
 use Rattle.records.specs.declared.surface.SurfaceDescriptor.{SurfaceDescriptor}
-use Rattle.records.specs.declared.surface.SurfaceTable.{SurfaceTable}
 use Rattle.records.specs.declared.trace.CompositionTrace.{CompositionTrace}
-use Rattle.records.specs.declared.trace.Traces.{Traces}
 use Rattle.records.specs.declared.view.ViewInputState.{ViewInputState}
 use Rattle.release_lists.specs.Captures.{capture_list}
 use Rattle.release_lists.specs.Releases.{releases}
@@ -29,13 +25,13 @@ use Rattle.answer_words.specs.Answers.{release_numbers, answer_numbers}
 use Rattle.answer_words.specs.Lengths.{All, TraceLengths}
 use Rattle.answer_words.proofs.EntryLaws.{all_take, all_more, each_long, list_few, list_fixed}
 
-pub optional_size : (o : OptionalHandle) → length (optional_numbers o) ≡ 3
-optional_size O.None = refl
-optional_size (O.Some h) = refl
+pub optional_size : (o : Option GenerationalHandle) → length (optional_numbers o) ≡ 3
+optional_size None = refl
+optional_size (Some h) = refl
 
-rect_size : (r : OptionalRect) → length (rect_numbers r) ≡ 5
-rect_size R.None = refl
-rect_size (R.Some r) = refl
+rect_size : (r : Option SurfaceRect) → length (rect_numbers r) ≡ 5
+rect_size None = refl
+rect_size (Some r) = refl
 
 pub state_size : (s : ViewInputState) → length (input_state_numbers s) ≡ 9
 state_size s = simp (length-append, optional_size)
@@ -68,7 +64,7 @@ traces_size t h x =
     (all_more TraceLengths _ trace_size_lem (entries_of traces t) (all_take TraceLengths t.len t.items x))
 
 -- the answer's own numbers: eleven, and those of its three lists
-pub front_size : (revision : ℕ) (a : Answer) (named : OptionalHandle)
+pub front_size : (revision : ℕ) (a : Answer) (named : Option GenerationalHandle)
     → length (answer_numbers revision a named)
     ≡ 11 + 3 * length (entries_of deliveries a.report.arbitration.deliveries)
     + 6 * length (entries_of releases a.report.synthesized_releases)

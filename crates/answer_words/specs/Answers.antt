@@ -1,19 +1,16 @@
 -- The answer of a call as numbers for a host: what `replay` shows in its columns 2 to 8, with how many entries stand
 -- before each list.
-use Rattle.std.specs.Prelude.{ℕ}
+use Rattle.handles.specs.declared.GenerationalHandle.{GenerationalHandle}
+use Rattle.std.specs.Prelude.{ℕ, Option, None, Some}
 use mathlib.Core.List.{List, [], ◌∷◌, ◌++◌, flatten, map}
-use Rattle.std.proofs.Math.Option.{Option, none, some}
 use Rattle.lists.specs.Tables.{entries_of}
-use Rattle.handles.specs.declared.OptionalHandle.{OptionalHandle}
 use Rattle.maps.specs.Bindings.{key_of_binding}
 use Rattle.maps.specs.declared.bindings.Binding.{Binding}
 use Rattle.maps.specs.declared.keys.MapKey.{MapKey}
-use Rattle.release_lists.specs.Captures.{capture_list}
-use Rattle.release_lists.specs.declared.captures.CaptureList.{CaptureList}
+use Rattle.release_lists.specs.Captures.{capture_list, CaptureList}
 use Rattle.composition_arbitration.specs.declared.arbitrate.ArbitrationResult.{ArbitrationResult}
 use Rattle.input_events.specs.RouterErrors.{router_number_of}
-use Rattle.release_lists.specs.declared.releases.Releases.{Releases}
-use Rattle.release_lists.specs.Releases.{releases}
+use Rattle.release_lists.specs.Releases.{Releases, releases}
 use Rattle.calls.specs.declared.call.Call.{Call}
 use Rattle.counter.specs.declared.answer.Answer.{Answer}
 use Rattle.counter.specs.declared.step.Counter.{Counter}
@@ -46,7 +43,7 @@ arbitration_numbers x = optional_numbers x.consumed_by ++ deliveries_numbers x.d
 
 -- the answer's number, the revision after the call, the arbitration, the releases, the captures, the handle that is
 -- named
-abbrev pub answer_numbers : ℕ → Answer → OptionalHandle → List Number
+abbrev pub answer_numbers : ℕ → Answer → Option GenerationalHandle → List Number
 answer_numbers revision a named =
     plain (router_number_of a.outcome)
     ∷ plain revision
@@ -56,8 +53,8 @@ answer_numbers revision a named =
 
 -- what a call shows, and nothing where it shows nothing
 abbrev pub shown_numbers : Option (List Number) → List Number
-shown_numbers none = []
-shown_numbers (some l) = l
+shown_numbers None = []
+shown_numbers (Some l) = l
 
 -- the words of an answer: its own numbers, then what the call shows; a signed number has 2^31 added
 unfoldable pub answer_words : Call → Answer → Counter → List ℕ

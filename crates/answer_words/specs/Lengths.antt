@@ -12,7 +12,7 @@ All P (e ∷ l) = P e × All P l
 -- a view's layers and captures
 pub record ViewLengths (v : ViewRecord) : Type 0 where
   pub layers : length v.surfaces.items ≡ 16
-  pub captures : length v.pointer_captures.entries ≡ 32
+  pub captures : length v.pointer_captures.table.items ≡ 32
 
 -- a trace's hits and deliveries
 pub record TraceLengths (t : CompositionTrace) : Type 0 where
@@ -21,7 +21,7 @@ pub record TraceLengths (t : CompositionTrace) : Type 0 where
 
 -- the arrays that the lists of an answer are made from
 pub record Lengths (k : Counter) : Type 0 where
-  pub presses : length k.router.bindings.entries ≡ 128
+  pub presses : length k.router.bindings.table.items ≡ 128
   pub views : All ViewLengths k.registry.views.records
   pub traces : length k.registry.traces.items ≡ 32
   pub each_trace : All TraceLengths k.registry.traces.items

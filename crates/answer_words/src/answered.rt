@@ -3,7 +3,7 @@ ghost use Rattle.std.specs.Prelude.{ℕ, List, ◌≡◌};
 ghost use Rattle.answer_numbers.specs.Writers.{written};
 ghost use Rattle.answer_words.specs.Answers.{arbitration_numbers, answer_numbers, answer_placed};
 
-use crate::listed::{write_captures, write_releases};
+use crate::listed::write_releases;
 use answer_columns::named::named_handle;
 use answer_more::more::put_more;
 use answer_numbers::numbered::{Numbered, put_numbers};
@@ -13,8 +13,8 @@ use calls::call::Call;
 use composition_arbitration::arbitrate::ArbitrationResult;
 use counter::answer::Answer;
 use counter::step::Counter;
-use handles::OptionalHandle;
-use input_events::error::number;
+use handles::GenerationalHandle;
+use records::error::number;
 
 fn write_arbitration(arbitration: &ArbitrationResult, to: &mut Writer<'_>)
     ensures { to.new ≡ written (arbitration_numbers arbitration.now) to.old }
@@ -28,7 +28,7 @@ fn write_arbitration(arbitration: &ArbitrationResult, to: &mut Writer<'_>)
 struct Answered<'a> {
     revision: u64,
     answer: &'a Answer,
-    named: OptionalHandle,
+    named: Option<GenerationalHandle>,
 }
 
 // The number, the revision, the arbitration, the releases, the captures and the handle that is named.
@@ -36,12 +36,11 @@ impl Numbered for Answered<'_> {
     ghost numbers = { λ a. answer_numbers a.revision a.answer.now a.named };
 
     fn write(&self, to: &mut Writer<'_>) {
-        let answer = self.answer;
-        to.plain(number(answer.outcome));
+        to.plain(number(self.answer.outcome));
         self.revision.write(to);
-        write_arbitration(&answer.report.arbitration, to);
-        write_releases(&answer.report.synthesized_releases, to);
-        write_captures(&answer.listed.captures, to);
+        write_arbitration(&self.answer.report.arbitration, to);
+        write_releases(&self.answer.report.synthesized_releases, to);
+        self.answer.listed.captures.write(to);
         self.named.write(to);
     }
 }

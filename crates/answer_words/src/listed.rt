@@ -1,13 +1,12 @@
-// The releases and the captures that an answer lists.
+// The releases that an answer lists.
 ghost use Rattle.std.specs.Prelude.{◌≡◌};
 ghost use Rattle.answer_numbers.specs.Writers.{written};
-ghost use Rattle.answer_words.specs.Answers.{release_numbers, releases_numbers, captures_numbers};
+ghost use Rattle.answer_words.specs.Answers.{release_numbers, releases_numbers};
 
-use answer_numbers::numbered::{Numbered, front, write_list};
+use answer_numbers::numbered::Numbered;
 use answer_numbers::writer::Writer;
 use maps::bindings::Binding;
 use maps::keys::binding_key;
-use release_lists::captures::CaptureList;
 use release_lists::releases::Releases;
 
 // The kind, the device and the contact or key of what is released, 0 where it has none, then its panel: six numbers
@@ -26,16 +25,9 @@ fn write_release(release: &Binding, to: &mut Writer<'_>)
 pub fn write_releases(list: &Releases, to: &mut Writer<'_>)
     ensures { to.new ≡ written (releases_numbers list.now) to.old }
 {
-    let releases = front(&list.items, list.len);
+    let releases = list.entries();
     releases.len().write(to);
     for release in releases {
         write_release(release, to);
     }
-}
-
-#[tactic(auto, unfolding(lists::specs::Tables::entries_of))]
-pub fn write_captures(list: &CaptureList, to: &mut Writer<'_>)
-    ensures { to.new ≡ written (captures_numbers list.now) to.old }
-{
-    write_list(front(&list.items, list.len), to);
 }

@@ -14,37 +14,27 @@ pub enum Case {
     DisconnectPresses,
     DisconnectCaptures,
     Panel,
-    Unknown,
 }
 
-pub fn named(word: &[u8]) -> Case {
-    match script::words::index_of_word(
-        b"move_3 move_16 press_3 press_16 hit_16 disconnect_presses disconnect_captures panel",
-        word,
-    ) {
-        Some(0) => Case::Move3,
-        Some(1) => Case::Move16,
-        Some(2) => Case::Press3,
-        Some(3) => Case::Press16,
-        Some(4) => Case::Hit16,
-        Some(5) => Case::DisconnectPresses,
-        Some(6) => Case::DisconnectCaptures,
-        Some(7) => Case::Panel,
-        _ => Case::Unknown,
+pub fn named(word: &[u8]) -> Option<Case> {
+    match word {
+        b"move_3" => Some(Case::Move3),
+        b"move_16" => Some(Case::Move16),
+        b"press_3" => Some(Case::Press3),
+        b"press_16" => Some(Case::Press16),
+        b"hit_16" => Some(Case::Hit16),
+        b"disconnect_presses" => Some(Case::DisconnectPresses),
+        b"disconnect_captures" => Some(Case::DisconnectCaptures),
+        b"panel" => Some(Case::Panel),
+        _ => None,
     }
 }
 
 fn panels_of(case: Case) -> u64 {
     match case {
-        Case::Move3 => 3,
-        Case::Move16 => 16,
-        Case::Press3 => 3,
-        Case::Press16 => 16,
-        Case::Hit16 => 16,
-        Case::DisconnectPresses => 3,
+        Case::Move16 | Case::Press16 | Case::Hit16 => 16,
+        Case::Move3 | Case::Press3 | Case::DisconnectPresses | Case::Panel => 3,
         Case::DisconnectCaptures => 1,
-        Case::Panel => 3,
-        Case::Unknown => 0,
     }
 }
 
@@ -52,18 +42,11 @@ fn panels_of(case: Case) -> u64 {
 pub fn run(case: Case, turns: u64) -> Tally {
     let opened = open(panels_of(case));
     match case {
-        Case::Move3 => route_turns(opened, Gesture::Moves, turns),
-        Case::Move16 => route_turns(opened, Gesture::Moves, turns),
-        Case::Press3 => route_turns(opened, Gesture::Presses, turns),
-        Case::Press16 => route_turns(opened, Gesture::Presses, turns),
+        Case::Move3 | Case::Move16 => route_turns(opened, Gesture::Moves, turns),
+        Case::Press3 | Case::Press16 => route_turns(opened, Gesture::Presses, turns),
         Case::Hit16 => hit_turns(opened, turns),
         Case::DisconnectPresses => disconnect_turns(with_presses(opened), turns),
         Case::DisconnectCaptures => disconnect_turns(with_captures(opened), turns),
         Case::Panel => close_turns(opened, turns),
-        Case::Unknown => Tally {
-            revision: 0,
-            presses: 0,
-            sum: 0,
-        },
     }
 }

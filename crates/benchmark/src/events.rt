@@ -1,8 +1,8 @@
 // The events of the cases. All are of device 7.1, at the view's origin.
 use crate::opening::Places;
 use input_events::event::{
-    InputDeviceKind, InputModifiers, OptionalButton, PlatformInputEvent, PlatformInputHeader,
-    PlatformInputPayload, PointerInput, PointerPhase,
+    InputDeviceKind, InputModifiers, PlatformInputEvent, PlatformInputHeader, PlatformInputPayload,
+    PointerInput, PointerPhase,
 };
 use maps::keys::InputDeviceId;
 
@@ -17,20 +17,14 @@ pub enum Gesture {
 pub fn phase_of(gesture: Gesture, sequence: u64) -> PointerPhase {
     match gesture {
         Gesture::Moves => PointerPhase::Move,
-        Gesture::Presses => {
-            if sequence % 2 == 0 {
-                PointerPhase::Up
-            } else {
-                PointerPhase::Down
-            }
-        }
+        Gesture::Presses if sequence % 2 == 0 => PointerPhase::Up,
+        Gesture::Presses => PointerPhase::Down,
     }
 }
 
 // The time of an event is its sequence number.
 fn event(places: Places, sequence: u64, payload: PlatformInputPayload) -> PlatformInputEvent {
-    let window = places.window;
-    let view = places.view;
+    let Places { window, view } = places;
     let header = PlatformInputHeader {
         sequence,
         timestamp_micros: sequence,
@@ -74,7 +68,7 @@ pub fn pointer(
             tilt_x_degrees: 0,
             tilt_y_degrees: 0,
             buttons: 1,
-            changed_button: OptionalButton::Some(0),
+            changed_button: Some(0),
         }),
     )
 }

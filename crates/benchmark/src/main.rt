@@ -33,11 +33,16 @@ fn turns_asked(rt: &impl Env) -> u64 {
     }
 }
 
-fn case_asked(rt: &impl Env) -> cases::Case {
+fn case_asked(rt: &impl Env) -> Option<cases::Case> {
     let mut word = [0u8; 32];
     cases::named(word_at(rt, 1, &mut word))
 }
 
+// A word that names no case makes no call.
 fn main(rt: HostRuntime) -> io::Result<()> {
-    write_tally(&rt, cases::run(case_asked(&rt), turns_asked(&rt)))
+    let tally = match case_asked(&rt) {
+        Some(case) => cases::run(case, turns_asked(&rt)),
+        None => tally::Tally::NONE,
+    };
+    write_tally(&rt, tally)
 }

@@ -1,12 +1,13 @@
 // The counter of a case: one window and one view with panels that fill it, then presses or captures.
 use crate::events::pointer;
 use composition_input::captures::capture_pointer_for;
+use composition_panels::answer::Created;
 use composition_panels::panels::attach_surface;
 use composition_panels::views::create_view;
 use composition_panels::windows::create_window;
 use composition_state::registry::{CompositionLimits, CompositionRegistry};
 use geometry::surface::SurfaceGeometry;
-use handles::{GenerationalHandle, OptionalHandle};
+use handles::GenerationalHandle;
 use input_events::event::PointerPhase;
 use input_route::route::route;
 use input_router::router::PlatformInputRouter;
@@ -28,11 +29,8 @@ pub struct Opened {
 }
 
 // Every later call refuses the handle of a call that was refused.
-pub fn issued(handle: OptionalHandle) -> GenerationalHandle {
-    match handle {
-        OptionalHandle::None => GenerationalHandle::INVALID,
-        OptionalHandle::Some(made) => made,
-    }
+pub fn issued(created: Created) -> GenerationalHandle {
+    created.outcome.unwrap_or(GenerationalHandle::INVALID)
 }
 
 fn limits() -> CompositionLimits {
@@ -46,14 +44,12 @@ fn limits() -> CompositionLimits {
 }
 
 // The lowest panel takes what reaches it; of those above it every second observes and the others pass on.
-fn policy_of(layer: u64) -> SurfaceInputPolicy {
-    if layer == 0 {
-        return SurfaceInputPolicy::Interactive;
+fn layer_policy(layer: u64) -> SurfaceInputPolicy {
+    match layer {
+        0 => SurfaceInputPolicy::Interactive,
+        _ if layer % 2 == 0 => SurfaceInputPolicy::Passthrough,
+        _ => SurfaceInputPolicy::Observe,
     }
-    if layer % 2 == 0 {
-        return SurfaceInputPolicy::Passthrough;
-    }
-    SurfaceInputPolicy::Observe
 }
 
 // A panel with no bounds, which fills its view, with the identity matrix and open to hit tests.
@@ -75,11 +71,8 @@ fn with_panels(
     panels: u64,
 ) -> CompositionRegistry {
     let mut registry = opened;
-    let mut layer: u64 = 0;
-    while layer < panels {
-        let made = attach_surface(registry, panel(view, policy_of(layer)));
-        registry = made.registry;
-        layer += 1;
+    for layer in 0..panels {
+        registry = attach_surface(registry, panel(view, layer_policy(layer))).registry;
     }
     registry
 }
@@ -91,34 +84,28 @@ pub fn open(panels: u64) -> Opened {
     };
     let start = CompositionRegistry::new(session, 1, limits());
     let first = create_window(start.registry);
-    let made = first.handle;
-    let window = issued(made);
+    let window = issued(first);
     let second = create_view(first.registry, window);
-    let shown = second.handle;
-    let view = issued(shown);
-    let registry = with_panels(second.registry, view, panels);
-    let routing = PlatformInputRouter::new(128);
-    let router = routing.router;
+    let view = issued(second);
     Opened {
         places: Places { window, view },
-        registry,
-        router,
+        registry: with_panels(second.registry, view, panels),
+        router: PlatformInputRouter::new(128).router,
     }
 }
 
 // 128 contacts pressed.
 pub fn with_presses(opened: Opened) -> Opened {
-    let places = opened.places;
-    let mut registry = opened.registry;
-    let mut router = opened.router;
-    let mut contact: u32 = 0;
-    while contact < 128 {
-        let sequence = contact as u64 + 1;
-        let event = pointer(places, sequence, contact, PointerPhase::Down);
+    let Opened {
+        places,
+        mut registry,
+        mut router,
+    } = opened;
+    for contact in 0..128u32 {
+        let event = pointer(places, contact as u64 + 1, contact, PointerPhase::Down);
         let routed = route(registry, router, event);
         registry = routed.registry;
         router = routed.router;
-        contact += 1;
     }
     Opened {
         places,
@@ -130,16 +117,13 @@ pub fn with_presses(opened: Opened) -> Opened {
 // 32 contacts captured by one panel.
 fn captured(opened: CompositionRegistry, surface: GenerationalHandle) -> CompositionRegistry {
     let mut registry = opened;
-    let mut contact: u32 = 0;
-    while contact < 32 {
+    for contact in 0..32u32 {
         let pointer = CompositionPointerId {
             device: 7,
             device_generation: 1,
             contact,
         };
-        let changed = capture_pointer_for(registry, pointer, surface, registry.revision);
-        registry = changed.registry;
-        contact += 1;
+        registry = capture_pointer_for(registry, pointer, surface, registry.revision).registry;
     }
     registry
 }
@@ -150,34 +134,20 @@ fn with_captured_view(
     window: GenerationalHandle,
 ) -> CompositionRegistry {
     let viewed = create_view(opened, window);
-    let shown = viewed.handle;
-    let view = issued(shown);
-    let attached = attach_surface(
-        viewed.registry,
-        panel(view, SurfaceInputPolicy::Interactive),
-    );
-    let made = attached.handle;
-    captured(attached.registry, issued(made))
+    let shown = panel(issued(viewed), SurfaceInputPolicy::Interactive);
+    let attached = attach_surface(viewed.registry, shown);
+    captured(attached.registry, issued(attached))
 }
 
 // 512 captures: 32 in each of 16 views. The first panel of the first view has its part.
 pub fn with_captures(opened: Opened) -> Opened {
-    let places = opened.places;
-    let window = places.window;
     let first = GenerationalHandle {
         index: 0,
         generation: 1,
     };
     let mut registry = captured(opened.registry, first);
-    let mut views: u64 = 1;
-    while views < 16 {
-        registry = with_captured_view(registry, window);
-        views += 1;
+    for _ in 1..16 {
+        registry = with_captured_view(registry, opened.places.window);
     }
-    let router = opened.router;
-    Opened {
-        places,
-        registry,
-        router,
-    }
+    Opened { registry, ..opened }
 }

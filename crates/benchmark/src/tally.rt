@@ -1,9 +1,8 @@
 // What is written of a run: numbers that depend on every call of it.
 use composition_state::registry::CompositionRegistry;
-use handles::OptionalHandle;
-use input_releases::answer::Routed;
+use handles::GenerationalHandle;
+use input_releases::answer::PlatformInputRoutingReport;
 use input_router::router::PlatformInputRouter;
-use std::num::wrapping_add_u64;
 
 // The registry's revision and the number of open presses at the end, and the sum over all answers.
 #[derive(Clone, Copy)]
@@ -13,21 +12,25 @@ pub struct Tally {
     pub sum: u64,
 }
 
-fn consumer_number(consumer: OptionalHandle) -> u64 {
-    match consumer {
-        OptionalHandle::None => 0,
-        OptionalHandle::Some(surface) => surface.generation as u64,
-    }
+impl Tally {
+    // That of a run without calls.
+    pub const NONE: Self = Tally {
+        revision: 0,
+        presses: 0,
+        sum: 0,
+    };
+}
+
+fn consumer_number(consumer: Option<GenerationalHandle>) -> u64 {
+    consumer.map_or(0, |surface| u64::from(surface.generation))
 }
 
 // A sum with the answer of a routed event: its revision, consumer, deliveries and releases.
-pub fn add_routed(sum: u64, routed: Routed) -> u64 {
-    let arbitration = routed.report.arbitration;
-    let consumer = arbitration.consumed_by;
-    let counted = wrapping_add_u64(sum, routed.report.composition_revision);
-    let delivered = wrapping_add_u64(counted, arbitration.deliveries.len as u64);
-    let released = wrapping_add_u64(delivered, routed.report.synthesized_releases.len as u64);
-    wrapping_add_u64(released, consumer_number(consumer))
+pub fn add_routed(sum: u64, report: PlatformInputRoutingReport) -> u64 {
+    sum.wrapping_add(report.composition_revision)
+        .wrapping_add(report.arbitration.deliveries.len as u64)
+        .wrapping_add(report.synthesized_releases.len as u64)
+        .wrapping_add(consumer_number(report.arbitration.consumed_by))
 }
 
 pub fn tally_of(registry: CompositionRegistry, router: PlatformInputRouter, sum: u64) -> Tally {

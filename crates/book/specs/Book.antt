@@ -1,11 +1,9 @@
 -- RULES.md, Book: "It keeps presses and captures with their panels, and panels' views; all start empty."
-use Rattle.std.specs.Prelude.{ℕ, Bool, false, not, ◌&&◌, List, [], ◌∷◌, eqb}
-use Rattle.std.proofs.Math.Option.{Option, none, some}
+use Rattle.std.specs.Prelude.{ℕ, Bool, false, not, ◌&&◌, List, [], ◌∷◌, eqb, Option, None, Some}
 use Rattle.lists.specs.Lists.{keep, first}
 use Rattle.lists.specs.Maps.{insert, remove}
 use Rattle.lists.specs.Orders.{lex_lt}
 use Rattle.handles.specs.declared.GenerationalHandle.{GenerationalHandle}
-use Rattle.handles.specs.declared.OptionalHandle.{OptionalHandle}
 use Rattle.maps.specs.declared.bindings.Binding.{Binding}
 use Rattle.maps.specs.declared.captures.Capture.{Capture}
 use Rattle.maps.specs.declared.keys.BindingKey.{BindingKey}
@@ -25,8 +23,8 @@ pub record Asked : Type 0 where
 -- "The book is fed arguments and answers (number, handle, consumer, deliveries), never releases or tables."
 pub record Told : Type 0 where
   pub number : ℕ
-  pub handle : OptionalHandle
-  pub consumer : OptionalHandle
+  pub handle : Option GenerationalHandle
+  pub consumer : Option GenerationalHandle
   pub deliveries : List InputDelivery
 
 -- "0 is accepted": every other number is a refusal
@@ -66,16 +64,16 @@ with_homes l b = record { presses = b.presses; captures = b.captures; homes = l 
 
 -- ---- panels' views
 abbrev pub view_of_home : Option Home → Option GenerationalHandle
-view_of_home none = none
-view_of_home (some x) = some x.view
+view_of_home None = None
+view_of_home (Some x) = Some x.view
 
 -- the view that a panel was attached to
 unfoldable pub home_of : GenerationalHandle → List Home → Option GenerationalHandle
 home_of h l = view_of_home (first (λ x. is_same_handle h x.surface) l)
 
 abbrev pub is_view : GenerationalHandle → Option GenerationalHandle → Bool
-is_view view none = false
-is_view view (some v) = is_same_handle view v
+is_view view None = false
+is_view view (Some v) = is_same_handle view v
 
 -- "Attach notes the view."
 abbrev pub with_home : GenerationalHandle → GenerationalHandle → Book → Book
@@ -107,8 +105,8 @@ is_held_both p h x = is_same_pointer p x.capture.pointer && is_held_on_panel h x
 
 -- "Capture gives the panel the pointer in the panel's view"; a panel without a view was never attached
 abbrev pub with_capture_in : Option GenerationalHandle → CompositionPointerId → GenerationalHandle → Book → Book
-with_capture_in none p h b = b
-with_capture_in (some view) p h b = with_captures (insert held_place place_before (capture_in view p h) b.captures) b
+with_capture_in None p h b = b
+with_capture_in (Some view) p h b = with_captures (insert held_place place_before (capture_in view p h) b.captures) b
 
 unfoldable pub with_capture : CompositionPointerId → GenerationalHandle → Book → Book
 with_capture p h b = with_capture_in (home_of h b.homes) p h b

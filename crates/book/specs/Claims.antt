@@ -1,8 +1,7 @@
 -- The book tried on examples: one for each sentence of RULES.md, Presses, Release order and Book. Behind
 -- "not:" stands a wrong rule that the example refuses. What the router alone forgets (sequences, the time) is no part
 -- of the book.
-use Rattle.std.specs.Prelude.{◌≡◌, true, false, List, [], ◌∷◌}
-use Rattle.handles.specs.declared.OptionalHandle.TheVariants as handle
+use Rattle.std.specs.Prelude.{◌≡◌, true, false, List, [], ◌∷◌, None, Some}
 use Rattle.maps.specs.declared.bindings.Binding.{Binding}
 use Rattle.records.specs.declared.surface.SurfaceDescriptor.{SurfaceDescriptor}
 use Rattle.input_events.specs.declared.event.KeyPhase.TheVariants as K
@@ -38,10 +37,10 @@ module _ (l : Lists) where
 pub record PressClaims (l : Lists) : Type 0 where
   -- ---- "The receiver is the consumer, else the first unobserved delivery."
   -- not: the first delivery before the consumer
-  pub receiver_consumes : receiver (handle.Some pay_sheet) (delivery seat_map false ∷ []) ≡ handle.Some pay_sheet
+  pub receiver_consumes : receiver (Some pay_sheet) (delivery seat_map false ∷ []) ≡ Some pay_sheet
   -- not: the first delivery, observed or not; the last unobserved one
-  pub receiver_unobserved : receiver handle.None (delivery hold_bar true ∷ delivery seat_map false
-      ∷ delivery pay_sheet false ∷ []) ≡ handle.Some seat_map
+  pub receiver_unobserved : receiver None (delivery hold_bar true ∷ delivery seat_map false
+      ∷ delivery pay_sheet false ∷ []) ≡ Some seat_map
   -- ---- "A pointer Down, a key Down without repeat or a connected snapshot with a receiver opens the press or moves it
   -- to the new receiver, with no release listed."
   -- not: a Down that opens nothing

@@ -1,8 +1,6 @@
 -- Calls, answers and books for the examples: two windows' worth of panels in two views, and two devices of one value.
-use Rattle.std.specs.Prelude.{ℕ, Bool, false, List, [], ◌∷◌, pos}
+use Rattle.std.specs.Prelude.{ℕ, Bool, false, List, [], ◌∷◌, pos, Option, None, Some}
 use Rattle.handles.specs.declared.GenerationalHandle.{GenerationalHandle}
-use Rattle.handles.specs.declared.OptionalHandle.{OptionalHandle}
-use Rattle.handles.specs.declared.OptionalHandle.TheVariants as handle
 use Rattle.maps.specs.declared.bindings.Binding.{Binding}
 use Rattle.maps.specs.declared.keys.BindingKey.TheVariants as press
 use Rattle.maps.specs.declared.keys.CompositionPointerId.{CompositionPointerId}
@@ -11,7 +9,6 @@ use Rattle.records.specs.declared.trace.InputDelivery.{InputDelivery}
 use Rattle.input_events.specs.declared.event.GamepadMapping.TheVariants.{Standard}
 use Rattle.input_events.specs.declared.event.InputDeviceKind.TheVariants.{Touch}
 use Rattle.input_events.specs.declared.event.KeyPhase.{KeyPhase}
-use Rattle.input_events.specs.declared.event.OptionalButton.TheVariants as button
 use Rattle.input_events.specs.declared.event.PlatformInputPayload.{PlatformInputPayload}
 use Rattle.input_events.specs.declared.event.PlatformInputPayload.TheVariants as payload
 use Rattle.input_events.specs.declared.event.PointerPhase.{PointerPhase}
@@ -88,7 +85,7 @@ contact_payload n phase = payload.Pointer (record {
   tilt_x_degrees = pos 0;
   tilt_y_degrees = pos 0;
   buttons = 0;
-  changed_button = button.None;
+  changed_button = None;
 })
 
 -- contact 0, key 30 and the gamepad of device 7.1, in the first view
@@ -143,21 +140,21 @@ abbrev pub panel_closed : GenerationalHandle → Call
 panel_closed h = Close (close.CloseSurface h)
 
 -- ---- answers
-abbrev pub answer : ℕ → OptionalHandle → List InputDelivery → Told
-answer n consumer deliveries = record { number = n; handle = handle.None; consumer = consumer; deliveries = deliveries }
+abbrev pub answer : ℕ → Option GenerationalHandle → List InputDelivery → Told
+answer n consumer deliveries = record { number = n; handle = None; consumer = consumer; deliveries = deliveries }
 
 -- accepted, with nobody who takes it, or with a consumer
 abbrev pub accepted : Told
-accepted = answer 0 handle.None []
+accepted = answer 0 None []
 
 abbrev pub taken_by : GenerationalHandle → Told
-taken_by h = answer 0 (handle.Some h) []
+taken_by h = answer 0 (Some h) []
 
 abbrev pub refused_with : ℕ → Told
-refused_with n = answer n handle.None []
+refused_with n = answer n None []
 
 abbrev pub made : GenerationalHandle → Told
-made h = record { number = 0; handle = handle.Some h; consumer = handle.None; deliveries = [] }
+made h = record { number = 0; handle = Some h; consumer = None; deliveries = [] }
 
 abbrev pub delivery : GenerationalHandle → Bool → InputDelivery
 delivery h observed = record { surface = h; observed = observed }

@@ -1,10 +1,7 @@
 -- RULES.md, Presses and Book: what a call with its answer changes in the book.
-use Rattle.std.specs.Prelude.{Bool, true, false, not, cond, List}
-use Rattle.std.proofs.Math.Option.{Option, none, some}
+use Rattle.std.specs.Prelude.{Bool, true, false, not, cond, List, Option, None, Some}
 use Rattle.lists.specs.Lists.{first}
 use Rattle.handles.specs.declared.GenerationalHandle.{GenerationalHandle}
-use Rattle.handles.specs.declared.OptionalHandle.{OptionalHandle}
-use Rattle.handles.specs.declared.OptionalHandle.TheVariants as handle
 use Rattle.maps.specs.declared.keys.BindingKey.{BindingKey}
 use Rattle.maps.specs.declared.keys.BindingKey.TheVariants as press
 use Rattle.maps.specs.declared.keys.CompositionPointerId.{CompositionPointerId}
@@ -37,39 +34,39 @@ pub data Change : Type 0 where
   ends : BindingKey → Change
   leaves : Change
 
-abbrev pub panel_of : Option InputDelivery → OptionalHandle
-panel_of none = handle.None
-panel_of (some d) = handle.Some d.surface
+abbrev pub panel_of : Option InputDelivery → Option GenerationalHandle
+panel_of None = None
+panel_of (Some d) = Some d.surface
 
 -- "The receiver is the consumer, else the first unobserved delivery."
-abbrev pub receiver : OptionalHandle → List InputDelivery → OptionalHandle
-receiver handle.None l = panel_of (first (λ d. not d.observed) l)
-receiver (handle.Some h) l = handle.Some h
+abbrev pub receiver : Option GenerationalHandle → List InputDelivery → Option GenerationalHandle
+receiver None l = panel_of (first (λ d. not d.observed) l)
+receiver (Some h) l = Some h
 
 -- "with a receiver opens the press or moves it .. Without a receiver an older press is unchanged."
-abbrev pub opens_for : OptionalHandle → BindingKey → Change
-opens_for handle.None key = leaves
-opens_for (handle.Some h) key = opens key h
+abbrev pub opens_for : Option GenerationalHandle → BindingKey → Change
+opens_for None key = leaves
+opens_for (Some h) key = opens key h
 
 -- "A pointer Down .. Up, Cancel .. ends it"
-abbrev pub pointer_change : PointerPhase → BindingKey → OptionalHandle → Change
+abbrev pub pointer_change : PointerPhase → BindingKey → Option GenerationalHandle → Change
 pointer_change P.Down key to = opens_for to key
 pointer_change P.Move key to = leaves
 pointer_change P.Up key to = ends key
 pointer_change P.Cancel key to = ends key
 
 -- "a key Down without repeat"
-abbrev pub key_change : KeyPhase → Bool → BindingKey → OptionalHandle → Change
+abbrev pub key_change : KeyPhase → Bool → BindingKey → Option GenerationalHandle → Change
 key_change K.Down true key to = leaves
 key_change K.Down false key to = opens_for to key
 key_change K.Up repeat key to = ends key
 
 -- "a connected snapshot .. A disconnected snapshot is a gamepad's Up and not its device's disconnect."
-abbrev pub snapshot_change : Bool → BindingKey → OptionalHandle → Change
+abbrev pub snapshot_change : Bool → BindingKey → Option GenerationalHandle → Change
 snapshot_change true key to = opens_for to key
 snapshot_change false key to = ends key
 
-unfoldable pub payload_change : PlatformInputPayload → InputDeviceId → OptionalHandle → Change
+unfoldable pub payload_change : PlatformInputPayload → InputDeviceId → Option GenerationalHandle → Change
 payload_change (payload.Pointer p) d to =
     pointer_change p.phase (press.Pointer (record {
       device =
@@ -121,11 +118,11 @@ changes x a k = cond (is_refused a) false (is_changed (change x.call a) k)
 
 -- ---- Book: captures and panels' views
 -- "Attach notes the view."
-abbrev pub noted_attach : OptionalHandle → GenerationalHandle → Book → Book
-noted_attach handle.None view b = b
-noted_attach (handle.Some h) view b = with_home h view b
+abbrev pub noted_attach : Option GenerationalHandle → GenerationalHandle → Book → Book
+noted_attach None view b = b
+noted_attach (Some h) view b = with_home h view b
 
-unfoldable pub noted_panel : PanelCall → OptionalHandle → Book → Book
+unfoldable pub noted_panel : PanelCall → Option GenerationalHandle → Book → Book
 noted_panel panel.CreateWindow made b = b
 noted_panel (panel.CloseWindow window) made b = b
 noted_panel (panel.CreateView window) made b = b

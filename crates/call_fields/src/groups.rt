@@ -7,13 +7,12 @@ ghost use Rattle.std.specs.Prelude.{◌≡◌};
 ghost use Rattle.call_fields.specs.Groups.{handle_of, optional_of, optional_numbers, pointer_of, device_of, rect_of, rect_numbers, button_of, button_numbers, registration_of, registration_numbers, maybe_of, maybe_numbers};
 
 use crate::numbered::Numbered;
-use composition_shortcuts::register::OptionalRegistration;
-use geometry::rect::{OptionalRect, SurfaceRect};
-use handles::{GenerationalHandle, OptionalHandle};
-use input_events::event::OptionalButton;
+use geometry::rect::SurfaceRect;
+use handles::GenerationalHandle;
 use maps::keys::{CompositionPointerId, InputDeviceId};
 use records::shortcut::{ShortcutScope, SurfaceShortcutRegistration};
 
+// `present` is the word before the fields, as a message of a host has it.
 #[derive(Clone, Copy)]
 pub struct OptionalNumbers {
     pub present: u64,
@@ -21,6 +20,7 @@ pub struct OptionalNumbers {
     pub generation: u64,
 }
 
+// `present` is the word before the fields, as a message of a host has it.
 #[derive(Clone, Copy)]
 pub struct RectNumbers {
     pub present: u64,
@@ -30,6 +30,7 @@ pub struct RectNumbers {
     pub height_milli: u64,
 }
 
+// `present` is the word before the fields, as a message of a host has it.
 #[derive(Clone, Copy)]
 pub struct ButtonNumbers {
     pub present: u64,
@@ -44,6 +45,7 @@ pub struct RegistrationNumbers {
     pub priority: u64,
 }
 
+// `present` is the word before the fields, as a message of a host has it.
 #[derive(Clone, Copy)]
 pub struct MaybeNumbers {
     pub present: u64,
@@ -59,25 +61,25 @@ pub fn handle_of(index: u64, generation: u64) -> GenerationalHandle
     }
 }
 
-pub fn optional_of(numbers: OptionalNumbers) -> OptionalHandle
+pub fn optional_of(numbers: OptionalNumbers) -> Option<GenerationalHandle>
     ensures { result ≡ optional_of numbers }
 {
     if numbers.present == 1 {
-        return OptionalHandle::Some(handle_of(numbers.index, numbers.generation));
+        return Some(handle_of(numbers.index, numbers.generation));
     }
-    OptionalHandle::None
+    None
 }
 
-pub fn optional_numbers(optional: OptionalHandle) -> OptionalNumbers
+pub fn optional_numbers(optional: Option<GenerationalHandle>) -> OptionalNumbers
     ensures { result ≡ optional_numbers optional }
 {
     match optional {
-        OptionalHandle::None => OptionalNumbers {
+        None => OptionalNumbers {
             present: 0,
             index: 0,
             generation: 0,
         },
-        OptionalHandle::Some(h) => OptionalNumbers {
+        Some(h) => OptionalNumbers {
             present: 1,
             index: h.index.number(),
             generation: h.generation.number(),
@@ -104,7 +106,7 @@ pub fn device_of(value: u64, generation: u64) -> InputDeviceId
     }
 }
 
-pub fn rect_of(numbers: RectNumbers) -> OptionalRect
+pub fn rect_of(numbers: RectNumbers) -> Option<SurfaceRect>
     ensures { result ≡ rect_of numbers }
 {
     if numbers.present == 1 {
@@ -114,23 +116,23 @@ pub fn rect_of(numbers: RectNumbers) -> OptionalRect
             width_milli: u32::from_number(numbers.width_milli),
             height_milli: u32::from_number(numbers.height_milli),
         };
-        return OptionalRect::Some(rect);
+        return Some(rect);
     }
-    OptionalRect::None
+    None
 }
 
-pub fn rect_numbers(optional: OptionalRect) -> RectNumbers
+pub fn rect_numbers(optional: Option<SurfaceRect>) -> RectNumbers
     ensures { result ≡ rect_numbers optional }
 {
     match optional {
-        OptionalRect::None => RectNumbers {
+        None => RectNumbers {
             present: 0,
             x_milli: 0,
             y_milli: 0,
             width_milli: 0,
             height_milli: 0,
         },
-        OptionalRect::Some(rect) => RectNumbers {
+        Some(rect) => RectNumbers {
             present: 1,
             x_milli: rect.x_milli.number(),
             y_milli: rect.y_milli.number(),
@@ -140,24 +142,24 @@ pub fn rect_numbers(optional: OptionalRect) -> RectNumbers
     }
 }
 
-pub fn button_of(numbers: ButtonNumbers) -> OptionalButton
+pub fn button_of(numbers: ButtonNumbers) -> Option<u8>
     ensures { result ≡ button_of numbers }
 {
     if numbers.present == 1 {
-        return OptionalButton::Some(u8::from_number(numbers.button));
+        return Some(u8::from_number(numbers.button));
     }
-    OptionalButton::None
+    None
 }
 
-pub fn button_numbers(optional: OptionalButton) -> ButtonNumbers
+pub fn button_numbers(optional: Option<u8>) -> ButtonNumbers
     ensures { result ≡ button_numbers optional }
 {
     match optional {
-        OptionalButton::None => ButtonNumbers {
+        None => ButtonNumbers {
             present: 0,
             button: 0,
         },
-        OptionalButton::Some(button) => ButtonNumbers {
+        Some(button) => ButtonNumbers {
             present: 1,
             button: button.number(),
         },
@@ -184,37 +186,30 @@ pub fn registration_numbers(registration: SurfaceShortcutRegistration) -> Regist
     }
 }
 
-pub fn maybe_of(numbers: MaybeNumbers) -> OptionalRegistration
+pub fn maybe_of(numbers: MaybeNumbers) -> Option<SurfaceShortcutRegistration>
     ensures { result ≡ maybe_of numbers }
 {
-    let registration = numbers.registration;
     if numbers.present == 1 {
-        return OptionalRegistration::Some(registration_of(registration));
+        return Some(registration_of(numbers.registration));
     }
-    OptionalRegistration::None
+    None
 }
 
-pub fn maybe_numbers(optional: OptionalRegistration) -> MaybeNumbers
+pub fn maybe_numbers(optional: Option<SurfaceShortcutRegistration>) -> MaybeNumbers
     ensures { result ≡ maybe_numbers optional }
 {
     match optional {
-        OptionalRegistration::None => {
-            let registration = RegistrationNumbers {
+        None => MaybeNumbers {
+            present: 0,
+            registration: RegistrationNumbers {
                 class_mask: 0,
                 scope: 0,
                 priority: 0,
-            };
-            MaybeNumbers {
-                present: 0,
-                registration,
-            }
-        }
-        OptionalRegistration::Some(given) => {
-            let registration = registration_numbers(given);
-            MaybeNumbers {
-                present: 1,
-                registration,
-            }
-        }
+            },
+        },
+        Some(registration) => MaybeNumbers {
+            present: 1,
+            registration: registration_numbers(registration),
+        },
     }
 }

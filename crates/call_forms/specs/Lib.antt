@@ -1,3 +1,2 @@
-pub mod Geometries
 pub mod Forms
 pub mod Claims

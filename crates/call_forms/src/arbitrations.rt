@@ -7,64 +7,64 @@ ghost use Rattle.lists.specs.Lists.{pad};
 ghost use Rattle.call_numbers.specs.Arbitrations.{arbitrate_numbers};
 ghost use Rattle.call_numbers.specs.Words.{handle_numbers, optional_numbers, pointer_numbers};
 
-use crate::shared::handle_form;
+use crate::shared::{handle_form, put};
 use call_fields::groups::optional_numbers;
 use call_fields::numbered::Numbered;
 use calls::arguments::ArbitrateArguments;
-use handles::{GenerationalHandle, OptionalHandle};
+use handles::GenerationalHandle;
 use maps::keys::CompositionPointerId;
 use records::trace::ArbitrationEvent;
 
 fn kind_form(view: GenerationalHandle, kind: u64) -> [u64; 32]
     ensures { result ≡ pad 32 0 (20 ∷ handle_numbers view ++ kind ∷ []) }
 {
-    let mut words = handle_form(20, view);
-    words[3] = kind;
-    words
+    put(handle_form(20, view), 3, &[kind])
 }
 
-fn target_form(view: GenerationalHandle, kind: u64, target: OptionalHandle) -> [u64; 32]
+fn target_form(view: GenerationalHandle, kind: u64, target: Option<GenerationalHandle>) -> [u64; 32]
     ensures { result ≡ pad 32 0 (20 ∷ handle_numbers view ++ kind ∷ optional_numbers target) }
 {
     let numbers = optional_numbers(target);
-    let mut words = kind_form(view, kind);
-    words[4] = numbers.present;
-    words[5] = numbers.index;
-    words[6] = numbers.generation;
-    words
+    put(
+        kind_form(view, kind),
+        4,
+        &[numbers.present, numbers.index, numbers.generation],
+    )
 }
 
 fn pointer_form(view: GenerationalHandle, kind: u64, pointer: CompositionPointerId) -> [u64; 32]
     ensures { result ≡ pad 32 0 (20 ∷ handle_numbers view ++ kind ∷ pointer_numbers pointer) }
 {
-    let mut words = kind_form(view, kind);
-    words[4] = pointer.device;
-    words[5] = pointer.device_generation.number();
-    words[6] = pointer.contact.number();
-    words
+    put(
+        kind_form(view, kind),
+        4,
+        &[
+            pointer.device,
+            pointer.device_generation.number(),
+            pointer.contact.number(),
+        ],
+    )
 }
 
 fn hit_form(
     view: GenerationalHandle,
     pointer: CompositionPointerId,
-    hit: OptionalHandle,
+    hit: Option<GenerationalHandle>,
 ) -> [u64; 32]
     ensures { result ≡ pad 32 0 (20 ∷ handle_numbers view ++ 2 ∷ pointer_numbers pointer ++ optional_numbers hit) }
 {
     let numbers = optional_numbers(hit);
-    let mut words = pointer_form(view, 2, pointer);
-    words[7] = numbers.present;
-    words[8] = numbers.index;
-    words[9] = numbers.generation;
-    words
+    put(
+        pointer_form(view, 2, pointer),
+        7,
+        &[numbers.present, numbers.index, numbers.generation],
+    )
 }
 
 fn mask_form(view: GenerationalHandle, class_mask: u64) -> [u64; 32]
     ensures { result ≡ pad 32 0 (20 ∷ handle_numbers view ++ 10 ∷ class_mask ∷ []) }
 {
-    let mut words = kind_form(view, 10);
-    words[4] = class_mask;
-    words
+    put(kind_form(view, 10), 4, &[class_mask])
 }
 
 pub fn arbitrate_form(given: ArbitrateArguments) -> [u64; 32]

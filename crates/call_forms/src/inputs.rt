@@ -7,7 +7,7 @@ ghost use Rattle.lists.specs.Lists.{pad};
 ghost use Rattle.call_numbers.specs.Inputs.{input_numbers, device_numbers};
 ghost use Rattle.call_numbers.specs.Words.{handle_numbers, optional_numbers};
 
-use crate::shared::{handle_form, pointer_form, revision_form};
+use crate::shared::{handle_form, pointer_form, put, revision_form};
 use call_fields::groups::optional_numbers;
 use call_fields::numbered::Numbered;
 use calls::arguments::{DeviceArguments, FocusArguments};
@@ -18,12 +18,16 @@ fn focus_form(focus: FocusArguments) -> [u64; 32]
         (8 ∷ handle_numbers focus.view ++ optional_numbers focus.surface ++ focus.revision ∷ []) }
 {
     let target = optional_numbers(focus.surface);
-    let mut words = handle_form(8, focus.view);
-    words[3] = target.present;
-    words[4] = target.index;
-    words[5] = target.generation;
-    words[6] = focus.revision;
-    words
+    put(
+        handle_form(8, focus.view),
+        3,
+        &[
+            target.present,
+            target.index,
+            target.generation,
+            focus.revision,
+        ],
+    )
 }
 
 pub fn input_form(call: InputCall) -> [u64; 32]
@@ -44,9 +48,9 @@ pub fn input_form(call: InputCall) -> [u64; 32]
 pub fn device_form(released: DeviceArguments) -> [u64; 32]
     ensures { result ≡ pad 32 0 (device_numbers released) }
 {
-    let mut words = [0u64; 32];
-    words[0] = 16;
-    words[1] = released.device;
-    words[2] = released.device_generation.number();
-    words
+    put(
+        [0; 32],
+        0,
+        &[16, released.device, released.device_generation.number()],
+    )
 }

@@ -9,7 +9,7 @@ ghost use Rattle.call_numbers.specs.Reads.{read_numbers};
 ghost use Rattle.call_numbers.specs.Words.{handle_numbers};
 
 use crate::geometries::transform_numbers;
-use crate::shared::{bare_form, handle_form};
+use crate::shared::{bare_form, handle_form, put};
 use call_fields::numbered::Numbered;
 use calls::arguments::{HitTestArguments, InversePointArguments};
 use calls::call::ReadCall;
@@ -18,27 +18,26 @@ fn hit_test_form(given: HitTestArguments) -> [u64; 32]
     ensures { result ≡ pad 32 0
         (35 ∷ handle_numbers given.view ++ point_numbers given.point ++ given.length ∷ []) }
 {
-    let mut words = handle_form(35, given.view);
-    words[3] = given.point.x_milli.number();
-    words[4] = given.point.y_milli.number();
-    words[5] = given.length;
-    words
+    put(
+        handle_form(35, given.view),
+        3,
+        &[
+            given.point.x_milli.number(),
+            given.point.y_milli.number(),
+            given.length,
+        ],
+    )
 }
 
 fn inverse_form(given: InversePointArguments) -> [u64; 32]
     ensures { result ≡ pad 32 0 (36 ∷ transform_numbers given.transform ++ point_numbers given.point) }
 {
-    let t = transform_numbers(given.transform);
-    let mut words = bare_form(36);
-    words[1] = t.m11;
-    words[2] = t.m12;
-    words[3] = t.m21;
-    words[4] = t.m22;
-    words[5] = t.x;
-    words[6] = t.y;
-    words[7] = given.point.x_milli.number();
-    words[8] = given.point.y_milli.number();
-    words
+    let words = put(bare_form(36), 1, &transform_numbers(given.transform));
+    put(
+        words,
+        7,
+        &[given.point.x_milli.number(), given.point.y_milli.number()],
+    )
 }
 
 pub fn read_form(call: ReadCall) -> [u64; 32]

@@ -7,7 +7,7 @@ ghost use Rattle.lists.specs.Lists.{pad};
 ghost use Rattle.call_numbers.specs.Shortcuts.{shortcut_numbers, maybe_numbers};
 ghost use Rattle.call_numbers.specs.Words.{handle_numbers};
 
-use crate::shared::{handle_form, revision_form};
+use crate::shared::{handle_form, put, revision_form};
 use call_fields::groups::maybe_numbers;
 use calls::arguments::{MaskArguments, RegistrationArguments};
 use calls::call::ShortcutCall;
@@ -18,23 +18,28 @@ fn registration_form(given: RegistrationArguments) -> [u64; 32]
 {
     let numbers = maybe_numbers(given.registration);
     let registration = numbers.registration;
-    let mut words = handle_form(18, given.surface);
-    words[3] = numbers.present;
-    words[4] = registration.class_mask;
-    words[5] = registration.scope;
-    words[6] = registration.priority;
-    words[7] = given.revision;
-    words
+    put(
+        handle_form(18, given.surface),
+        3,
+        &[
+            numbers.present,
+            registration.class_mask,
+            registration.scope,
+            registration.priority,
+            given.revision,
+        ],
+    )
 }
 
 fn mask_form(given: MaskArguments) -> [u64; 32]
     ensures { result ≡ pad 32 0
         (19 ∷ handle_numbers given.surface ++ given.class_mask ∷ given.revision ∷ []) }
 {
-    let mut words = handle_form(19, given.surface);
-    words[3] = given.class_mask;
-    words[4] = given.revision;
-    words
+    put(
+        handle_form(19, given.surface),
+        3,
+        &[given.class_mask, given.revision],
+    )
 }
 
 pub fn shortcut_form(call: ShortcutCall) -> [u64; 32]

@@ -1,19 +1,14 @@
 -- Each field and group is read back from its numbers, where its numbers fit.
+use Rattle.records.specs.declared.shortcut.SurfaceShortcutRegistration.{SurfaceShortcutRegistration}
+use Rattle.geometry.specs.declared.rect.SurfaceRect.{SurfaceRect}
+use Rattle.std.specs.Prelude.{Option, None, Some, ℕ}
 use mathlib.Core.Path.{◌≡◌, refl, ap}
 use Rattle.handles.specs.declared.GenerationalHandle.{GenerationalHandle}
-use Rattle.handles.specs.declared.OptionalHandle.{OptionalHandle}
-use Rattle.handles.specs.declared.OptionalHandle.TheVariants as handle
 use Rattle.maps.specs.declared.keys.CompositionPointerId.{CompositionPointerId}
 use Rattle.geometry.specs.declared.metrics.ViewMetricsUpdate.{ViewMetricsUpdate}
-use Rattle.geometry.specs.declared.rect.OptionalRect.{OptionalRect}
-use Rattle.geometry.specs.declared.rect.OptionalRect.TheVariants as rect
 use Rattle.geometry.specs.declared.surface.SurfaceGeometry.{SurfaceGeometry}
 use Rattle.geometry.specs.declared.transform.Point.{Point}
 use Rattle.geometry.specs.declared.transform.SurfaceTransform.{SurfaceTransform}
-use Rattle.composition_shortcuts.specs.declared.register.OptionalRegistration.{OptionalRegistration}
-use Rattle.composition_shortcuts.specs.declared.register.OptionalRegistration.TheVariants as registration
-use Rattle.input_events.specs.declared.event.OptionalButton.{OptionalButton}
-use Rattle.input_events.specs.declared.event.OptionalButton.TheVariants as button
 use Rattle.call_fields.specs.Groups.{handle_of, optional_of, optional_numbers, pointer_of, rect_of, rect_numbers, button_of, button_numbers, maybe_of, maybe_numbers}
 use Rattle.call_fields.specs.Back.{scope_back, visibility_back}
 use Rattle.call_fields.specs.Back.{within_back, flag_back, signed_back, short_back}
@@ -23,32 +18,32 @@ use Rattle.call_numbers.specs.Geometries.{transform_numbers, transform_at, point
 pub handle_back : (h : GenerationalHandle) → FitsHandle h → handle_of h.index h.generation ≡ h
 handle_back h f = λ i. record { index = within_back _ _ f.index i; generation = within_back _ _ f.generation i }
 
-pub optional_back : (o : OptionalHandle) → FitsOptional o → optional_of (optional_numbers o) ≡ o
+pub optional_back : (o : Option GenerationalHandle) → FitsOptional o → optional_of (optional_numbers o) ≡ o
 unfolding optional_of
-optional_back handle.None f = refl
-optional_back (handle.Some h) f = ap handle.Some (handle_back h f)
+optional_back None f = refl
+optional_back (Some h) f = ap Some (handle_back h f)
 
 pub pointer_back : (p : CompositionPointerId) → FitsPointer p → pointer_of p.device p.device_generation p.contact ≡ p
 pointer_back p f = λ i. record { device = p.device; device_generation = within_back _ _ f.generation i; contact = within_back _ _ f.contact i }
 
-pub rect_back : (o : OptionalRect) → FitsRect o → rect_of (rect_numbers o) ≡ o
+pub rect_back : (o : Option SurfaceRect) → FitsRect o → rect_of (rect_numbers o) ≡ o
 unfolding rect_of
-rect_back rect.None f = refl
-rect_back (rect.Some r) f = λ i. rect.Some (record {
+rect_back None f = refl
+rect_back (Some r) f = λ i. Some (record {
   x_milli = signed_back _ f.x i;
   y_milli = signed_back _ f.y i;
   width_milli = within_back _ _ f.width i;
   height_milli = within_back _ _ f.height i;
 })
 
-pub button_back : (o : OptionalButton) → FitsButton o → button_of (button_numbers o) ≡ o
-button_back button.None f = refl
-button_back (button.Some b) f = ap button.Some (within_back 256 b f)
+pub button_back : (o : Option ℕ) → FitsButton o → button_of (button_numbers o) ≡ o
+button_back None f = refl
+button_back (Some b) f = ap Some (within_back 256 b f)
 
-pub maybe_back : (o : OptionalRegistration) → FitsRegistration o → maybe_of (maybe_numbers o) ≡ o
+pub maybe_back : (o : Option SurfaceShortcutRegistration) → FitsRegistration o → maybe_of (maybe_numbers o) ≡ o
 unfolding maybe_of
-maybe_back registration.None f = refl
-maybe_back (registration.Some r) f = λ i. registration.Some (record { class_mask = r.class_mask; scope = scope_back r.scope i; priority = short_back _ f i })
+maybe_back None f = refl
+maybe_back (Some r) f = λ i. Some (record { class_mask = r.class_mask; scope = scope_back r.scope i; priority = short_back _ f i })
 
 pub transform_back : (t : SurfaceTransform) → FitsTransform t → transform_at (transform_numbers t) 0 ≡ t
 unfolding transform_at

@@ -1,15 +1,12 @@
 -- What every value that a program can hold fulfils: its numbers fit their types.
-use Rattle.std.specs.Prelude.{ℕ, ◌<◌}
+use Rattle.records.specs.declared.shortcut.SurfaceShortcutRegistration.{SurfaceShortcutRegistration}
+use Rattle.std.specs.Prelude.{ℕ, ◌<◌, Option, None, Some}
 use Rattle.std.specs.Int.{w16, w32}
 use Rattle.std.proofs.Common.{SFits}
 use Rattle.handles.specs.declared.GenerationalHandle.{GenerationalHandle}
-use Rattle.handles.specs.declared.OptionalHandle.{OptionalHandle}
-use Rattle.handles.specs.declared.OptionalHandle.TheVariants as handle
 use Rattle.maps.specs.declared.keys.CompositionPointerId.{CompositionPointerId}
 use Rattle.geometry.specs.declared.metrics.ViewInsets.{ViewInsets}
 use Rattle.geometry.specs.declared.metrics.ViewMetricsUpdate.{ViewMetricsUpdate}
-use Rattle.geometry.specs.declared.rect.OptionalRect.{OptionalRect}
-use Rattle.geometry.specs.declared.rect.OptionalRect.TheVariants as rect
 use Rattle.geometry.specs.declared.rect.SurfaceRect.{SurfaceRect}
 use Rattle.geometry.specs.declared.surface.SurfaceGeometry.{SurfaceGeometry}
 use Rattle.geometry.specs.declared.transform.Point.{Point}
@@ -17,10 +14,6 @@ use Rattle.geometry.specs.declared.transform.SurfaceTransform.{SurfaceTransform}
 use Rattle.records.specs.declared.surface.SurfaceDescriptor.{SurfaceDescriptor}
 use Rattle.records.specs.declared.trace.ArbitrationEvent.{ArbitrationEvent}
 use Rattle.records.specs.declared.trace.ArbitrationEvent.TheVariants as event
-use Rattle.composition_shortcuts.specs.declared.register.OptionalRegistration.{OptionalRegistration}
-use Rattle.composition_shortcuts.specs.declared.register.OptionalRegistration.TheVariants as registration
-use Rattle.input_events.specs.declared.event.OptionalButton.{OptionalButton}
-use Rattle.input_events.specs.declared.event.OptionalButton.TheVariants as button
 use Rattle.input_events.specs.declared.event.PlatformInputHeader.{PlatformInputHeader}
 use Rattle.input_events.specs.declared.event.PlatformInputPayload.{PlatformInputPayload}
 use Rattle.input_events.specs.declared.event.PlatformInputPayload.TheVariants as payload
@@ -47,9 +40,9 @@ pub record FitsHandle (h : GenerationalHandle) : Type 0 where
   pub index : Half h.index
   pub generation : Half h.generation
 
-abbrev pub FitsOptional : OptionalHandle → Type 0
-FitsOptional handle.None = Unit {0}
-FitsOptional (handle.Some h) = FitsHandle h
+abbrev pub FitsOptional : Option GenerationalHandle → Type 0
+FitsOptional None = Unit {0}
+FitsOptional (Some h) = FitsHandle h
 
 pub record FitsPointer (p : CompositionPointerId) : Type 0 where
   pub generation : Half p.device_generation
@@ -61,9 +54,9 @@ pub record FitsSides (r : SurfaceRect) : Type 0 where
   pub width : Half r.width_milli
   pub height : Half r.height_milli
 
-abbrev pub FitsRect : OptionalRect → Type 0
-FitsRect rect.None = Unit {0}
-FitsRect (rect.Some r) = FitsSides r
+abbrev pub FitsRect : Option SurfaceRect → Type 0
+FitsRect None = Unit {0}
+FitsRect (Some r) = FitsSides r
 
 pub record FitsTransform (t : SurfaceTransform) : Type 0 where
   pub m11 : SFits w32 t.m11_q16
@@ -104,13 +97,13 @@ pub record FitsDescriptor (d : SurfaceDescriptor) : Type 0 where
   pub z_order : SFits w32 d.z_order
   pub geometry : FitsGeometry d.geometry
 
-abbrev pub FitsRegistration : OptionalRegistration → Type 0
-FitsRegistration registration.None = Unit {0}
-FitsRegistration (registration.Some r) = SFits w16 r.priority
+abbrev pub FitsRegistration : Option SurfaceShortcutRegistration → Type 0
+FitsRegistration None = Unit {0}
+FitsRegistration (Some r) = SFits w16 r.priority
 
-abbrev pub FitsButton : OptionalButton → Type 0
-FitsButton button.None = Unit {0}
-FitsButton (button.Some b) = b < 256
+abbrev pub FitsButton : Option ℕ → Type 0
+FitsButton None = Unit {0}
+FitsButton (Some b) = b < 256
 
 pub record FitsPointerInput (p : PointerInput) : Type 0 where
   pub contact : Half p.contact

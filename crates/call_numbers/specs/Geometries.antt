@@ -1,10 +1,10 @@
 -- Geometry, transforms, points and view metrics, by their numbers, and read from a place.
-use Rattle.std.specs.Prelude.{ℕ, ◌+◌, List, [], ◌∷◌, ◌++◌, get_or}
+use Rattle.geometry.specs.declared.rect.SurfaceRect.{SurfaceRect}
+use Rattle.std.specs.Prelude.{ℕ, ◌+◌, List, [], ◌∷◌, ◌++◌, get_or, Option}
 use Rattle.std.specs.Int.{w32}
 use Rattle.std.proofs.Common.{of_z}
 use Rattle.geometry.specs.declared.metrics.ViewInsets.{ViewInsets}
 use Rattle.geometry.specs.declared.metrics.ViewMetricsUpdate.{ViewMetricsUpdate}
-use Rattle.geometry.specs.declared.rect.OptionalRect.{OptionalRect}
 use Rattle.geometry.specs.declared.surface.SurfaceGeometry.{SurfaceGeometry}
 use Rattle.geometry.specs.declared.transform.Point.{Point}
 use Rattle.geometry.specs.declared.transform.SurfaceTransform.{SurfaceTransform}
@@ -13,12 +13,12 @@ use Rattle.call_fields.specs.Narrow.{within, is_one, one_if, signed_of}
 use Rattle.call_fields.specs.PanelChoices.{visibility_of, visibility_number}
 
 -- flag, x, y, width, height
-abbrev pub rect_numbers : OptionalRect → List ℕ
+abbrev pub rect_numbers : Option SurfaceRect → List ℕ
 rect_numbers o =
     (rect_fields o).present ∷ (rect_fields o).x_milli ∷ (rect_fields o).y_milli ∷ (rect_fields o).width_milli
     ∷ (rect_fields o).height_milli ∷ []
 
-abbrev pub rect_at : List ℕ → ℕ → OptionalRect
+abbrev pub rect_at : List ℕ → ℕ → Option SurfaceRect
 rect_at l i =
     rect_of (record {
       present = get_or l i 0;

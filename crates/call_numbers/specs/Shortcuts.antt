@@ -1,18 +1,18 @@
 -- The calls that register system shortcuts, as numbers 17 to 19 with their fields.
-use Rattle.std.specs.Prelude.{ℕ, cond, List, [], ◌∷◌, ◌++◌, eqb, get_or}
-use Rattle.composition_shortcuts.specs.declared.register.OptionalRegistration.{OptionalRegistration}
+use Rattle.records.specs.declared.shortcut.SurfaceShortcutRegistration.{SurfaceShortcutRegistration}
+use Rattle.std.specs.Prelude.{ℕ, cond, List, [], ◌∷◌, ◌++◌, eqb, get_or, Option}
 use Rattle.calls.specs.declared.call.ShortcutCall.{ShortcutCall}
 use Rattle.calls.specs.declared.call.ShortcutCall.TheVariants.{RegisterSet, RegisterOne, SetMask}
 use Rattle.call_fields.specs.Groups.{maybe_of, maybe_numbers as maybe_fields}
 use Rattle.call_numbers.specs.Words.{handle_numbers, handle_at}
 
 -- flag, class mask, scope, priority
-abbrev pub maybe_numbers : OptionalRegistration → List ℕ
+abbrev pub maybe_numbers : Option SurfaceShortcutRegistration → List ℕ
 maybe_numbers o =
     (maybe_fields o).present ∷ (maybe_fields o).registration.class_mask ∷ (maybe_fields o).registration.scope
     ∷ (maybe_fields o).registration.priority ∷ []
 
-abbrev pub maybe_at : List ℕ → OptionalRegistration
+abbrev pub maybe_at : List ℕ → Option SurfaceShortcutRegistration
 maybe_at l =
     maybe_of (record {
       present = get_or l 3 0;

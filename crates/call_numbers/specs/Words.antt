@@ -1,7 +1,6 @@
 -- The fields of a call by their numbers, and at their places among its first 32 numbers.
-use Rattle.std.specs.Prelude.{ℕ, ◌+◌, List, [], ◌∷◌, get_or}
+use Rattle.std.specs.Prelude.{ℕ, ◌+◌, List, [], ◌∷◌, get_or, Option}
 use Rattle.handles.specs.declared.GenerationalHandle.{GenerationalHandle}
-use Rattle.handles.specs.declared.OptionalHandle.{OptionalHandle}
 use Rattle.maps.specs.declared.keys.CompositionPointerId.{CompositionPointerId}
 use Rattle.call_fields.specs.Groups.{handle_of, optional_of, optional_numbers as optional_fields, pointer_of}
 
@@ -10,7 +9,7 @@ abbrev pub handle_numbers : GenerationalHandle → List ℕ
 handle_numbers h = h.index ∷ h.generation ∷ []
 
 -- flag, index, generation
-abbrev pub optional_numbers : OptionalHandle → List ℕ
+abbrev pub optional_numbers : Option GenerationalHandle → List ℕ
 optional_numbers o = (optional_fields o).present ∷ (optional_fields o).index ∷ (optional_fields o).generation ∷ []
 
 -- device, device generation, contact
@@ -21,7 +20,7 @@ pointer_numbers p = p.device ∷ p.device_generation ∷ p.contact ∷ []
 abbrev pub handle_at : List ℕ → ℕ → GenerationalHandle
 handle_at l i = handle_of (get_or l i 0) (get_or l (i + 1) 0)
 
-abbrev pub optional_at : List ℕ → ℕ → OptionalHandle
+abbrev pub optional_at : List ℕ → ℕ → Option GenerationalHandle
 optional_at l i = optional_of (record {
   present = get_or l i 0;
   index = get_or l (i + 1) 0;

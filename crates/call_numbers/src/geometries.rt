@@ -9,7 +9,7 @@ use crate::words::word;
 use call_fields::groups::{RectNumbers, rect_of};
 use call_fields::numbered::Numbered;
 use geometry::metrics::{ViewInsets, ViewMetricsUpdate, ViewVisibility};
-use geometry::rect::OptionalRect;
+use geometry::rect::SurfaceRect;
 use geometry::surface::SurfaceGeometry;
 use geometry::transform::{Point, SurfaceTransform};
 
@@ -37,7 +37,7 @@ pub fn point_at(words: [u64; 32], at: u8) -> Point
     }
 }
 
-fn rect_at(words: [u64; 32], at: u16) -> OptionalRect
+fn rect_at(words: [u64; 32], at: u16) -> Option<SurfaceRect>
     ensures { result ≡ rect_at words at }
 {
     let i = at as usize;

@@ -3,7 +3,7 @@ ghost use Rattle.std.specs.Prelude.{◌≡◌, get_or};
 ghost use Rattle.call_numbers.specs.Words.{handle_at, optional_at, pointer_at};
 
 use call_fields::groups::{OptionalNumbers, handle_of, optional_of, pointer_of};
-use handles::{GenerationalHandle, OptionalHandle};
+use handles::GenerationalHandle;
 use maps::keys::CompositionPointerId;
 
 // Past the end a word is 0.
@@ -20,7 +20,7 @@ pub fn handle_at(words: [u64; 32], at: u8) -> GenerationalHandle
     handle_of(word(words, i), word(words, i + 1))
 }
 
-pub fn optional_at(words: [u64; 32], at: u8) -> OptionalHandle
+pub fn optional_at(words: [u64; 32], at: u8) -> Option<GenerationalHandle>
     ensures { result ≡ optional_at words at }
 {
     let i = at as usize;

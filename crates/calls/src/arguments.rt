@@ -1,10 +1,10 @@
 // The arguments of the calls that take more than one. `revision` is the one that the caller expects.
-use composition_shortcuts::register::OptionalRegistration;
 use geometry::metrics::ViewMetricsUpdate;
 use geometry::surface::SurfaceGeometry;
 use geometry::transform::{Point, SurfaceTransform};
-use handles::{GenerationalHandle, OptionalHandle};
+use handles::GenerationalHandle;
 use maps::keys::CompositionPointerId;
+use records::shortcut::SurfaceShortcutRegistration;
 use records::surface::SurfaceInputPolicy;
 use records::trace::ArbitrationEvent;
 
@@ -32,7 +32,7 @@ pub struct PolicyArguments {
 #[derive(Clone, Copy)]
 pub struct FocusArguments {
     pub view: GenerationalHandle,
-    pub surface: OptionalHandle,
+    pub surface: Option<GenerationalHandle>,
     pub revision: u64,
 }
 
@@ -59,7 +59,7 @@ pub struct DeviceArguments {
 #[derive(Clone, Copy)]
 pub struct RegistrationArguments {
     pub surface: GenerationalHandle,
-    pub registration: OptionalRegistration,
+    pub registration: Option<SurfaceShortcutRegistration>,
     pub revision: u64,
 }
 

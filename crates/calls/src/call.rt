@@ -85,8 +85,8 @@ pub enum Call {
     Read(ReadCall),
 }
 
-// What is handed in beside a call, as an enum holds no array: the hits of an arbitration and the registrations of a
-// set.
+// What is handed in beside a call, so that a call is small where it is copied: the hits of an arbitration and the
+// registrations of a set.
 #[derive(Clone, Copy)]
 pub struct Lists {
     pub hits: Hits,

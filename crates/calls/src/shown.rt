@@ -1,7 +1,7 @@
 // What a call shows beside its handle, its lists and its report: one variant for each kind of value.
 use crate::arguments::HitTestArguments;
 use geometry::metrics::ViewMetrics;
-use geometry::transform::LocalPoint;
+use geometry::transform::Point;
 use handles::GenerationalHandle;
 use records::surface::SurfaceDescriptor;
 use records::view::ViewInputState;
@@ -17,7 +17,7 @@ pub struct Counts {
     pub surfaces: usize,
 }
 
-// A list is no variant's value, as an enum holds no array. The variant names it: the captures and layers of a view, the
+// A list is no variant's value, which every answer would have the room for. The variant names it: the captures and layers of a view, the
 // traces, and the hits at a point are read from the counter after the call, which a read leaves as it was.
 #[derive(Clone, Copy)]
 pub enum Shown {
@@ -32,5 +32,5 @@ pub enum Shown {
     Counts(Counts),
     BindingCount(u64),
     Hits(HitTestArguments),
-    Local(LocalPoint),
+    Local(Option<Point>),
 }

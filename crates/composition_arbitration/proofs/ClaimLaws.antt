@@ -1,4 +1,5 @@
 -- The claims about the walk, by induction on the panels from the top.
+use Rattle.std.specs.Prelude.{Some}
 use Prim.Native.Nat.{ℕ}
 use mathlib.Core.Path.{◌≡◌, refl, sym, ap, ◌∙◌}
 use mathlib.Core.Bool.{Bool, true, false, ◌&&◌}
@@ -11,7 +12,6 @@ use Rattle.lists.specs.Maps.{rising_from, rising}
 use Rattle.lists.proofs.ListLaws.{by_test, and_right, keep_reverse, map_append}
 use Rattle.lists.proofs.MapLaws as map
 use Rattle.handles.specs.declared.GenerationalHandle.{GenerationalHandle}
-use Rattle.handles.specs.declared.OptionalHandle.TheVariants.{Some}
 use Rattle.records.specs.declared.surface.SurfaceInputPolicy.TheVariants.{Observe, Exclusive}
 use Rattle.records.specs.declared.surface.SurfaceRecord.{SurfaceRecord}
 use Rattle.records.specs.Layers.{itself, layer_lt}

@@ -4,8 +4,8 @@ use mathlib.Core.Path.{◌≡◌, refl}
 use mathlib.Core.List.{List}
 use Rattle.handles.specs.declared.GenerationalHandle.{GenerationalHandle}
 use Rattle.records.specs.declared.shortcut.SlotShortcut.{SlotShortcut}
-use Rattle.records.specs.declared.surface.SurfaceTable.{SurfaceTable}
-use Rattle.records.specs.declared.view.ViewTable.{ViewTable}
+use Rattle.records.specs.Surfaces.{SurfaceTable}
+use Rattle.records.specs.Views.{ViewTable}
 use Rattle.records.specs.declared.trace.ArbitrationEvent.{ArbitrationEvent}
 use Rattle.records.specs.declared.trace.ArbitrationEvent.TheVariants.{Pointer, PointerStack, PointerFor, PointerStackFor, Keyboard, KeyboardFor, Gamepad, GamepadFor, Text, Shortcut, SystemShortcut}
 use Rattle.composition_arbitration.specs.Arbitration.{unresolved, resolution_of}

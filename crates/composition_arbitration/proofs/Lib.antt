@@ -1,5 +1,4 @@
 pub mod EventLaws
-pub mod HitsLaws
 pub mod TraceLaws
 pub mod WalkLaws
 pub mod ClaimLaws

@@ -1,4 +1,5 @@
 -- The walk, a panel at a time from the top: what is left answers as the whole, after what is delivered already.
+use Rattle.std.specs.Prelude.{None, Some}
 use Prim.Native.Nat.{ℕ, zero, suc, ◌+◌, ◌-◌, ◌≤◌, ◌<◌}
 use mathlib.Core.Path.{◌≡◌, refl, sym, ap, ◌∙◌}
 use mathlib.Core.Bool.{true, false}
@@ -6,14 +7,13 @@ use mathlib.Core.List.{List, [], ◌∷◌, ◌++◌, map, reverse, append_assoc
 use native.Mathlib.Omega.{arith}
 use lib.ListN.{length, take, get_or, length-append}
 use lib.Seq.{take-length}
+use Rattle.std.specs.List.{fold}
 use Rattle.lists.specs.Lists.{keep}
-use Rattle.lists.specs.Tables.{entries_of, packed}
+use Rattle.lists.specs.Tables.{entries_of, packed, pushed_within}
 use Rattle.lists.proofs.ListLaws.{keep_append, map_append, last_first, by_test}
-use Rattle.lists.proofs.TableLaws.{entries_packed}
-use Rattle.handles.specs.declared.OptionalHandle.TheVariants.{None, Some}
+use Rattle.lists.proofs.TableLaws.{entries_packed, all_within}
 use Rattle.records.specs.declared.trace.InputDelivery.{InputDelivery}
-use Rattle.records.specs.declared.trace.Deliveries.{Deliveries}
-use Rattle.records.specs.Traces.{deliveries}
+use Rattle.records.specs.Traces.{Deliveries, deliveries}
 use Rattle.view_panels.specs.Panels.{Panel}
 use Rattle.composition_arbitration.specs.declared.walk.Verdict.{Verdict}
 use Rattle.composition_arbitration.specs.declared.walk.Walked.{Walked}
@@ -79,11 +79,15 @@ module _ (at : Panel → Verdict) where
       }
 
   module _ (l : List Panel) (out : Deliveries) (left : ℕ) (w : Walking l out left) (z : 0 < left) (d : Panel) where
-    pub turn_room : length (entries_of deliveries out) < 16
-    turn_room = omega (arith, w.room, w.small)
-
     module _ (next : Deliveries)
-        (put : next ≡ packed deliveries (entries_of deliveries out ++ delivered (at (get_or l (left - 1) d)) (get_or l (left - 1) d).surface)) where
+        (given : next ≡ fold (pushed_within deliveries) out (delivered (at (get_or l (left - 1) d)) (get_or l (left - 1) d).surface)) where
+      put : next ≡ packed deliveries (entries_of deliveries out ++ delivered (at (get_or l (left - 1) d)) (get_or l (left - 1) d).surface)
+      put =
+          let h = get_or l (left - 1) d in
+          given
+          ∙ ap (λ (o : Deliveries). fold (pushed_within deliveries) o (delivered (at h) h.surface)) w.whole
+          ∙ all_within deliveries (entries_of deliveries out) (delivered (at h) h.surface) (omega (arith, length_one h, w.room, w.small))
+
       one_more : entries_of deliveries next ≡ entries_of deliveries out ++ delivered (at (get_or l (left - 1) d)) (get_or l (left - 1) d).surface
       one_more = ap (entries_of deliveries) put ∙ entries_packed deliveries _
 

@@ -1,34 +1,27 @@
 -- RULES.md, Arbitrate: 8/9, 41 (over 16 hits handed in), 8/9 (for a system shortcut), 21, each after 42 and before any
 -- change. First what one view's record, panels and registrations decide; then the call on a registry.
-use Rattle.std.specs.Prelude.{ℕ, ◌+◌, Bool, true, false, cond, List, [], ◌∷◌, eqb, ltb}
+use Rattle.std.specs.Result.{result_and}
+use Rattle.std.specs.Prelude.{ℕ, ◌+◌, Bool, true, false, cond, List, [], ◌∷◌, eqb, ltb, Option, None, Some, Ok}
 use Rattle.lists.specs.Tables.{entries_of, packed}
 use Rattle.lists.specs.Numbers.{max_u64}
 use Rattle.handles.specs.declared.GenerationalHandle.{GenerationalHandle}
-use Rattle.handles.specs.declared.OptionalHandle.{OptionalHandle}
-use Rattle.handles.specs.declared.OptionalHandle.TheVariants.{None, Some}
 use Rattle.records.specs.declared.error.CompositionError.TheVariants.{PortLimit, RevisionExhausted}
-use Rattle.records.specs.declared.error.Outcome.{Outcome}
-use Rattle.records.specs.declared.error.Outcome.TheVariants.{Accepted}
-use Rattle.composition_state.specs.declared.registry.Changed.{Changed}
 use Rattle.composition_state.specs.declared.registry.CompositionRegistry.{CompositionRegistry}
 use Rattle.records.specs.declared.shortcut.SlotShortcut.{SlotShortcut}
-use Rattle.records.specs.declared.surface.SurfaceTable.{SurfaceTable}
+use Rattle.records.specs.Surfaces.{SurfaceTable}
 use Rattle.records.specs.declared.trace.ArbitrationEvent.{ArbitrationEvent}
 use Rattle.records.specs.declared.trace.ArbitrationEvent.TheVariants.{Pointer, PointerStack, PointerFor, PointerStackFor, Keyboard, KeyboardFor, Gamepad, GamepadFor, Text, Shortcut, SystemShortcut}
 use Rattle.records.specs.declared.trace.CompositionTrace.{CompositionTrace}
-use Rattle.records.specs.declared.trace.Hits.{Hits}
+use Rattle.records.specs.Traces.{Hits, hits as state_hits, deliveries}
 use Rattle.records.specs.declared.view.ViewRecord.{ViewRecord}
-use Rattle.records.specs.declared.view.ViewTable.{ViewTable}
-use Rattle.records.specs.Errors.{then_refusal, refusal_if, is_accepted}
+use Rattle.records.specs.Views.{ViewTable, view_at, view_refusal}
+use Rattle.records.specs.Errors.{refusal_if, Outcome}
 use Rattle.composition_state.specs.Damage.{damage_refusal}
-use Rattle.composition_state.specs.Registry.{with_traces, settled}
+use Rattle.composition_state.specs.Registry.{with_traces, settled, answered_with}
 use Rattle.records.specs.Shortcuts.{shortcuts}
-use Rattle.records.specs.Traces.{hits as state_hits, deliveries}
-use Rattle.records.specs.Views.{view_at, view_refusal}
 use Rattle.view_panels.specs.Panels.{Panel, panels_in}
-use Rattle.composition_shortcuts.specs.declared.resolve.Resolved.{Resolved}
-use Rattle.composition_shortcuts.specs.Resolve.{resolve_system_shortcut}
-use Rattle.composition_arbitration.specs.declared.arbitrate.Arbitrated.{Arbitrated}
+use Rattle.composition_shortcuts.specs.Resolve.{Resolved, resolved_outcome, resolved_panel, resolve_system_shortcut}
+use Rattle.composition_state.specs.declared.registry.Answered.{Answered}
 use Rattle.composition_arbitration.specs.declared.arbitrate.ArbitrationResult.{ArbitrationResult}
 use Rattle.composition_arbitration.specs.declared.walk.Walked.{Walked}
 use Rattle.composition_arbitration.specs.Layers.{verdict_of, walk_of}
@@ -58,7 +51,7 @@ hits_refusal h = refusal_if (ltb 16 h.len) PortLimit
 
 -- only a system shortcut looks for a registration
 abbrev pub unresolved : Resolved
-unresolved = record { outcome = Accepted; surface = None }
+unresolved = Ok None
 
 unfoldable pub resolution_of : ViewTable → SurfaceTable → List SlotShortcut → GenerationalHandle → ArbitrationEvent
     → Resolved
@@ -79,7 +72,7 @@ unfoldable pub alone : GenerationalHandle → Walked
 alone h =
     record { deliveries = packed deliveries (record { surface = h; observed = false } ∷ []); consumed_by = Some h }
 
-abbrev pub or_alone : OptionalHandle → Walked → Walked
+abbrev pub or_alone : Option GenerationalHandle → Walked → Walked
 or_alone (Some h) walk = alone h
 or_alone None walk = walk
 
@@ -88,7 +81,7 @@ unfoldable pub walk_over : ViewRecord → List Panel → ArbitrationEvent → Hi
 walk_over v panels event h = walk_of (verdict_of (chosen event v) (entries_of state_hits h)) panels
 
 -- who gets an event, and who takes it
-abbrev pub arbitration_over : ViewRecord → List Panel → OptionalHandle → ArbitrationEvent → Hits → Walked
+abbrev pub arbitration_over : ViewRecord → List Panel → Option GenerationalHandle → ArbitrationEvent → Hits → Walked
 arbitration_over v panels winner event h = or_alone winner (walk_over v panels event (own_hits event h))
 
 -- the revision after this one; at the last revision the call is refused 21, so that case is never met
@@ -98,10 +91,10 @@ next_revision n = cond (eqb n max_u64) n (n + 1)
 -- RULES.md, Arbitrate: 8/9, 41, 8/9, 21, after what the damage test says
 abbrev pub refusal_after : Outcome → Outcome → ℕ → Hits → Outcome → Outcome
 refusal_after damage unknown revision own shortcut =
-    then_refusal damage
-    (then_refusal unknown
-    (then_refusal (hits_refusal own)
-    (then_refusal shortcut
+    result_and damage
+    (result_and unknown
+    (result_and (hits_refusal own)
+    (result_and shortcut
     (refusal_if (eqb revision max_u64) RevisionExhausted))))
 
 -- the trace keeps the event with its hits, the deliveries and the consumer
@@ -138,7 +131,7 @@ walk_among part r view event h = walk_over (view_at r.views view) part.panels ev
 
 abbrev pub arbitration_among : TakingPart → CompositionRegistry → GenerationalHandle → ArbitrationEvent → Hits → Walked
 arbitration_among part r view event h =
-    arbitration_over (view_at r.views view) part.panels (resolution_among part r view event).surface event h
+    arbitration_over (view_at r.views view) part.panels (resolved_panel (resolution_among part r view event)) event h
 
 abbrev pub arbitrate_refusal : CompositionRegistry → GenerationalHandle → Hits → Outcome → Outcome
 arbitrate_refusal r view own shortcut =
@@ -147,31 +140,25 @@ arbitrate_refusal r view own shortcut =
 abbrev pub with_trace : CompositionTrace → CompositionRegistry → CompositionRegistry
 with_trace e r = with_traces (traced r.limits.max_trace_entries r.traces e) r
 
--- a refused call has a blank result
-abbrev pub result_if : Bool → ℕ → Walked → ArbitrationResult
-result_if true n w = record { revision = n; deliveries = w.deliveries; consumed_by = w.consumed_by }
-result_if false n w = record { revision = 0; deliveries = packed deliveries []; consumed_by = None }
+-- what an accepted call answers
+abbrev pub result_at : ℕ → Walked → ArbitrationResult
+result_at n w = record { revision = n; deliveries = w.deliveries; consumed_by = w.consumed_by }
 
-abbrev pub answered_with : Walked → Changed → Arbitrated
-answered_with w c =
-    record {
-      outcome = c.outcome;
-      result = result_if (is_accepted c.outcome) c.registry.revision w;
-      registry = c.registry;
-    }
+abbrev pub Arbitrated : Type 0
+Arbitrated = Answered ArbitrationResult
 
 -- the answer, once it is known who gets the event
 unfoldable pub concluded : CompositionRegistry → GenerationalHandle → ArbitrationEvent → Hits → Outcome → Walked
     → Arbitrated
 concluded r view event own shortcut w =
-    answered_with w
-    (settled (arbitrate_refusal r view own shortcut) r
-    (with_trace (trace_of (next_revision r.revision) view event own w) r))
+    let changed = settled (arbitrate_refusal r view own shortcut) r
+    (with_trace (trace_of (next_revision r.revision) view event own w) r) in
+    answered_with (result_at changed.registry.revision w) changed
 
 abbrev pub arbitrated_among : TakingPart → CompositionRegistry → GenerationalHandle → ArbitrationEvent → Hits
     → Arbitrated
 arbitrated_among part r view event h =
-    concluded r view event (own_hits event h) (resolution_among part r view event).outcome
+    concluded r view event (own_hits event h) (resolved_outcome (resolution_among part r view event))
     (arbitration_among part r view event h)
 
 -- ---- of everyone

@@ -1,29 +1,26 @@
 -- What the rules (RULES.md, Layers, Targets) say of every arbitration, beyond the definitions.
-use Rattle.std.specs.Prelude.{ℕ, ◌+◌, ◌≡◌, true, false}
+use Rattle.std.specs.Prelude.{ℕ, ◌+◌, ◌≡◌, true, false, Option, Some, Ok, Err}
 use mathlib.Core.List.{List, [], ◌∷◌, ◌++◌, map, reverse, Memᴰ}
 use Rattle.lists.specs.Lists.{keep}
 use Rattle.lists.specs.Maps.{rising}
 use Rattle.lists.specs.Tables.{entries_of}
 use Rattle.handles.specs.declared.GenerationalHandle.{GenerationalHandle}
-use Rattle.handles.specs.declared.OptionalHandle.{OptionalHandle}
-use Rattle.handles.specs.declared.OptionalHandle.TheVariants.{Some}
 use Rattle.maps.specs.declared.keys.CompositionPointerId.{CompositionPointerId}
 use Rattle.records.specs.declared.error.CompositionError.{CompositionError}
-use Rattle.records.specs.declared.error.Outcome.TheVariants.{Accepted, Refused}
 use Rattle.composition_state.specs.declared.registry.CompositionRegistry.{CompositionRegistry}
 use Rattle.records.specs.declared.surface.SurfaceInputPolicy.TheVariants.{Observe, Exclusive}
 use Rattle.records.specs.declared.surface.SurfaceRecord.{SurfaceRecord}
 use Rattle.records.specs.declared.trace.ArbitrationEvent.{ArbitrationEvent}
 use Rattle.records.specs.declared.trace.ArbitrationEvent.TheVariants.{Pointer, PointerStack, PointerFor, PointerStackFor, SystemShortcut}
 use Rattle.records.specs.declared.trace.CompositionTrace.{CompositionTrace}
-use Rattle.records.specs.declared.trace.Hits.{Hits}
+use Rattle.records.specs.Traces.{Hits, deliveries}
 use Rattle.records.specs.declared.trace.InputDelivery.{InputDelivery}
 use Rattle.records.specs.declared.view.ViewRecord.{ViewRecord}
 use Rattle.records.specs.Layers.{layer_lt, itself}
 use Rattle.composition_state.specs.Registry.{with_revision}
-use Rattle.records.specs.Traces.{deliveries}
 use Rattle.view_panels.specs.Panels.{Panel, handles_of}
 use Rattle.composition_shortcuts.specs.Resolve.{resolve_system_shortcut}
+use Rattle.composition_arbitration.specs.declared.arbitrate.ArbitrationResult.{ArbitrationResult}
 use Rattle.composition_arbitration.specs.declared.targets.Choice.{Choice}
 use Rattle.composition_arbitration.specs.declared.walk.Verdict.{Verdict}
 use Rattle.composition_arbitration.specs.Arbitration.{TakingPart, own_hits, arbitration_among, trace_of, with_trace, arbitrated_among}
@@ -75,13 +72,13 @@ pub record WalkClaims : Type 0 where
       ≡ walked (verdict_of c hits) (p ∷ above)
   -- with a capture, hits do not matter: by the view's single field, and by the map entry of the pointer that the event
   -- names
-  pub capture_decides : (v : ViewRecord) (owner : GenerationalHandle) (m n : OptionalHandle)
+  pub capture_decides : (v : ViewRecord) (owner : GenerationalHandle) (m n : Option GenerationalHandle)
       (hits more : List GenerationalHandle) (l : List Panel)
       → v.pointer_capture ≡ Some owner
       → (walk_of (verdict_of (chosen (Pointer m) v) hits) l ≡ walk_of (verdict_of (chosen (Pointer n) v) more) l)
       × (walk_of (verdict_of (chosen PointerStack v) hits) l ≡ walk_of (verdict_of (chosen PointerStack v) more) l)
   pub named_capture_decides : (v : ViewRecord) (p : CompositionPointerId) (owner : GenerationalHandle)
-      (m n : OptionalHandle) (hits more : List GenerationalHandle) (l : List Panel) → capture_for p v ≡ Some owner
+      (m n : Option GenerationalHandle) (hits more : List GenerationalHandle) (l : List Panel) → capture_for p v ≡ Some owner
       → (walk_of (verdict_of (chosen (PointerFor p m) v) hits) l
       ≡ walk_of (verdict_of (chosen (PointerFor p n) v) more) l)
       × (walk_of (verdict_of (chosen (PointerStackFor p) v) hits) l
@@ -102,10 +99,10 @@ pub record ArbitrationClaims : Type 0 where
   -- every refusal, 21 too, leaves the registry as it came
   pub refused : (part : TakingPart) (r : CompositionRegistry) (view : GenerationalHandle) (event : ArbitrationEvent)
       (h : Hits) (e : CompositionError)
-      → (arbitrated_among part r view event h).outcome ≡ Refused e → (arbitrated_among part r view event h).registry ≡ r
+      → (arbitrated_among part r view event h).outcome ≡ Err e → (arbitrated_among part r view event h).registry ≡ r
   -- an accepted call changes the traces and the revision, which rises by exactly 1, and nothing else
   pub accepted : (part : TakingPart) (r : CompositionRegistry) (view : GenerationalHandle) (event : ArbitrationEvent)
-      (h : Hits) → (arbitrated_among part r view event h).outcome ≡ Accepted
+      (h : Hits) (x : ArbitrationResult) → (arbitrated_among part r view event h).outcome ≡ Ok x
       → (arbitrated_among part r view event h).registry
       ≡ with_revision (r.revision + 1) (with_trace (new_trace part r view event h) r)
   -- the consumer, if any, is the last delivery, and not observed
@@ -116,7 +113,7 @@ pub record ArbitrationClaims : Type 0 where
       (entries_of deliveries (arbitration_among part r view event h).deliveries)
   -- a system shortcut's winner alone gets the event and consumes it
   pub winner_alone : (part : TakingPart) (r : CompositionRegistry) (view s : GenerationalHandle) (mask : ℕ) (h : Hits)
-      → (resolve_system_shortcut r.views r.surfaces view mask part.registrations).surface ≡ Some s
+      → resolve_system_shortcut r.views r.surfaces view mask part.registrations ≡ Ok (Some s)
       → (entries_of deliveries (arbitration_among part r view (SystemShortcut mask) h).deliveries
       ≡ record { surface = s; observed = false } ∷ [])
       × ((arbitration_among part r view (SystemShortcut mask) h).consumed_by ≡ Some s)

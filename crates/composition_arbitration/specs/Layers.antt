@@ -1,10 +1,8 @@
 -- RULES.md, Layers: panels of a view, from lowest to highest, are walked from the top, and a consumer ends the walk.
-use Rattle.std.specs.Prelude.{Bool, true, false, cond, List, [], ◌∷◌, map, reverse}
+use Rattle.std.specs.Prelude.{Bool, true, false, cond, List, [], ◌∷◌, map, reverse, Option, None, Some}
 use Rattle.lists.specs.Lists.{keep}
 use Rattle.lists.specs.Tables.{packed}
 use Rattle.handles.specs.declared.GenerationalHandle.{GenerationalHandle}
-use Rattle.handles.specs.declared.OptionalHandle.{OptionalHandle}
-use Rattle.handles.specs.declared.OptionalHandle.TheVariants.{None, Some}
 use Rattle.records.specs.declared.surface.SurfaceInputPolicy.{SurfaceInputPolicy}
 use Rattle.records.specs.declared.surface.SurfaceInputPolicy.TheVariants.{Observe, Passthrough, Interactive, Exclusive}
 use Rattle.records.specs.declared.trace.InputDelivery.{InputDelivery}
@@ -75,7 +73,7 @@ module _ (at : Panel → Verdict) where
   deliveries_of w = map (λ p. delivery_from (at p) p.surface) (keep (λ p. delivers (at p)) w)
 
   -- the last walked, if it consumes
-  unfoldable pub consumer_of : List Panel → OptionalHandle
+  unfoldable pub consumer_of : List Panel → Option GenerationalHandle
   consumer_of [] = None
   consumer_of (p ∷ []) = cond (consumes (at p)) (Some p.surface) None
   consumer_of (p ∷ q ∷ l) = consumer_of (q ∷ l)

@@ -1,9 +1,8 @@
 -- RULES.md, Targets.
-use Rattle.std.specs.Prelude.{Bool, false, ◌&&◌, ◌||◌, List, [], ◌∷◌}
+use Rattle.std.specs.Prelude.{Bool, ◌&&◌, List, Option, None, Some}
+use Rattle.std.specs.List.{list_any}
 use Rattle.handles.specs.Handles.{same_handle, holds_handle}
 use Rattle.handles.specs.declared.GenerationalHandle.{GenerationalHandle}
-use Rattle.handles.specs.declared.OptionalHandle.{OptionalHandle}
-use Rattle.handles.specs.declared.OptionalHandle.TheVariants.{None, Some}
 use Rattle.maps.specs.Keys.{pointer_key}
 use Rattle.maps.specs.MapTables.{found}
 use Rattle.maps.specs.Captures.{captures, capture_key, surface_of}
@@ -15,16 +14,15 @@ use Rattle.composition_arbitration.specs.declared.targets.Choice.{Choice}
 use Rattle.composition_arbitration.specs.declared.targets.Choice.TheVariants.{Captured, Hit, HitStack, Focused, FocusedText, Given}
 
 abbrev pub is_among : GenerationalHandle → List GenerationalHandle → Bool
-is_among h [] = false
-is_among h (g ∷ l) = same_handle g h || is_among h l
+is_among h l = list_any (λ g. same_handle g h) l
 
 -- "A pointer's capture, if any, is its only target; otherwise its hits."
-abbrev pub capture_or : OptionalHandle → Choice → Choice
+abbrev pub capture_or : Option GenerationalHandle → Choice → Choice
 capture_or (Some h) otherwise = Captured h
 capture_or None otherwise = otherwise
 
 -- the panel that the view's map has for a pointer
-abbrev pub capture_for : CompositionPointerId → ViewRecord → OptionalHandle
+abbrev pub capture_for : CompositionPointerId → ViewRecord → Option GenerationalHandle
 capture_for p v = surface_of (found captures capture_key (pointer_key p) v.pointer_captures)
 
 -- "An event that names its pointer uses that pointer's map entry, others the view's single capture field. KeyboardFor

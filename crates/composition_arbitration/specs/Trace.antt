@@ -2,8 +2,7 @@
 use Rattle.std.specs.Prelude.{ℕ, ◌-◌, cond, List, [], ◌∷◌, ◌++◌, length, drop, eqb, ltb}
 use Rattle.lists.specs.Tables.{entries_of, packed}
 use Rattle.records.specs.declared.trace.CompositionTrace.{CompositionTrace}
-use Rattle.records.specs.declared.trace.Traces.{Traces}
-use Rattle.records.specs.Traces.{traces}
+use Rattle.records.specs.Traces.{Traces, traces}
 
 -- the last n of a list
 abbrev pub last_of : {E : Type 0} → ℕ → List E → List E

@@ -2,82 +2,58 @@
 ghost use Rattle.std.specs.Prelude.{◌≡◌};
 ghost use Rattle.lists.specs.Tables.{entries_of};
 ghost use Rattle.records.specs.Shortcuts.{shortcuts as stored};
-ghost use Rattle.view_panels.specs.Panels.{standing};
 ghost use Rattle.composition_state.specs.Registry.{with_traces, with_revision};
-ghost use Rattle.composition_arbitration.specs.Arbitration.{is_stack, own_hits, hits_refusal, resolution_of, alone, or_alone, walk_over, unresolved, next_revision, refusal_after, trace_of, arbitrated};
-ghost use Rattle.composition_arbitration.specs.Decisions.{decided_with, decided, result_of};
+ghost use Rattle.composition_arbitration.specs.Arbitration.{is_stack, own_hits, hits_refusal, resolution_of, alone, or_alone, walk_in, next_revision, trace_of, arbitrated};
+ghost use Rattle.composition_arbitration.specs.Decisions.{decided, result_of};
 
-use crate::walk::Walked;
+use crate::targets::choose;
+use crate::trace::push_trace;
+use crate::walk::{Walked, walk_layers};
 use composition_shortcuts::resolve::{Resolved, resolve_system_shortcut};
-use composition_state::registry::CompositionRegistry;
-use handles::{GenerationalHandle, OptionalHandle};
-use records::error::{CompositionError, Outcome};
+use composition_state::registry::{Answered, CompositionRegistry};
+use handles::GenerationalHandle;
+use records::error::{CompositionError, Outcome, refuse_if};
 use records::shortcut::Shortcuts;
 use records::surface::SurfaceTable;
 use records::trace::{ArbitrationEvent, CompositionTrace, Deliveries, Hits, InputDelivery, Traces};
-use records::view::{ViewRecord, ViewTable};
-use view_panels::{ViewPanels, gather};
+use records::view::ViewTable;
+use view_panels::gather;
 
 #[derive(Clone, Copy)]
 pub struct ArbitrationResult {
     pub revision: u64,
     pub deliveries: Deliveries,
-    pub consumed_by: OptionalHandle,
+    pub consumed_by: Option<GenerationalHandle>,
 }
 
-// A refused call has a blank result.
-#[derive(Clone, Copy)]
-pub struct Arbitrated {
-    pub outcome: Outcome,
-    pub result: ArbitrationResult,
-    pub registry: CompositionRegistry,
-}
+pub type Arbitrated = Answered<ArbitrationResult>;
 
 // Whether an event has a list of hits.
 pub fn is_stack(event: ArbitrationEvent) -> bool
     ensures { result ≡ is_stack event }
 {
-    match event {
-        ArbitrationEvent::Pointer { hit } => false,
-        ArbitrationEvent::PointerStack => true,
-        ArbitrationEvent::PointerFor { pointer, hit } => false,
-        ArbitrationEvent::PointerStackFor { pointer } => true,
-        ArbitrationEvent::Keyboard => false,
-        ArbitrationEvent::KeyboardFor { target } => false,
-        ArbitrationEvent::Gamepad => false,
-        ArbitrationEvent::GamepadFor { target } => false,
-        ArbitrationEvent::Text => false,
-        ArbitrationEvent::Shortcut => false,
-        ArbitrationEvent::SystemShortcut { class_mask } => false,
-    }
+    matches!(
+        event,
+        ArbitrationEvent::PointerStack | ArbitrationEvent::PointerStackFor { .. }
+    )
 }
 
 // What is handed in beside an event that has no hits is left out.
+#[tactic(auto, unfolding(crate::specs::Arbitration::own_hits))]
 pub fn own_hits(event: ArbitrationEvent, hits: Hits) -> Hits
     ensures { result ≡ own_hits event hits }
 {
-    if is_stack(event) {
-        return hits;
-    }
-    Hits::new()
+    if is_stack(event) { hits } else { Hits::new() }
 }
 
 fn hits_refusal(hits: Hits) -> Outcome
     ensures { result ≡ hits_refusal hits }
 {
-    records::error::refuse_if(16 < hits.len, CompositionError::PortLimit)
-}
-
-fn unresolved() -> Resolved
-    ensures { result ≡ unresolved }
-{
-    Resolved {
-        outcome: Outcome::Accepted,
-        surface: OptionalHandle::None,
-    }
+    refuse_if(16 < hits.len, CompositionError::PortLimit)
 }
 
 // Only a system shortcut looks for a registration.
+#[tactic(auto, using(crate::proofs::EventLaws::no_shortcut), unfolding(crate::specs::Arbitration::resolution_of))]
 fn resolve(
     views: ViewTable,
     surfaces: SurfaceTable,
@@ -87,69 +63,63 @@ fn resolve(
 ) -> Resolved
     ensures { result ≡ resolution_of views surfaces (entries_of stored shortcuts) view event }
 {
-    if let ArbitrationEvent::SystemShortcut { class_mask } = event {
-        return resolve_system_shortcut(views, surfaces, shortcuts, view, class_mask);
+    match event {
+        ArbitrationEvent::SystemShortcut { class_mask } => {
+            resolve_system_shortcut(views, surfaces, shortcuts, view, class_mask)
+        }
+        _ => Ok(None),
     }
-    unresolved()
 }
 
+#[tactic(auto, unfolding(crate::specs::Arbitration::alone, lists::specs::Tables::packed, lists::specs::Tables::pushed, lists::specs::Tables::pushed_within))]
 fn alone(surface: GenerationalHandle) -> Walked
     ensures { result ≡ alone surface }
 {
-    let mut deliveries = Deliveries::new();
-    deliveries.items[0] = InputDelivery {
-        surface,
-        observed: false,
-    };
-    deliveries.len = 1;
     Walked {
-        deliveries,
-        consumed_by: OptionalHandle::Some(surface),
+        deliveries: Deliveries::new().push_within(InputDelivery {
+            surface,
+            observed: false,
+        }),
+        consumed_by: Some(surface),
     }
 }
 
-fn or_alone(winner: OptionalHandle, walked: Walked) -> Walked
-    ensures { result ≡ or_alone winner walked }
+// The walk over the panels of a view, aimed by the view's record.
+#[tactic(auto, using(view_panels::proofs::PanelLaws::standing_gathered), unfolding(crate::specs::Arbitration::walk_over))]
+fn walk_in(
+    registry: CompositionRegistry,
+    view: GenerationalHandle,
+    event: ArbitrationEvent,
+    hits: Hits,
+) -> Walked
+    ensures { result ≡ walk_in registry view event hits }
+{
+    let record = registry.views.record(view);
+    let panels = gather(&registry.surfaces.records, record.surfaces);
+    walk_layers(panels, choose(event, record), hits)
+}
+
+// Who gets an event, and who takes it: a winner alone, and else those whom the walk reaches.
+fn reach(
+    registry: CompositionRegistry,
+    view: GenerationalHandle,
+    event: ArbitrationEvent,
+    hits: Hits,
+    winner: Option<GenerationalHandle>,
+) -> Walked
+    ensures { result ≡ or_alone winner (walk_in registry view event hits) }
 {
     match winner {
-        OptionalHandle::None => walked,
-        OptionalHandle::Some(surface) => alone(surface),
+        Some(surface) => alone(surface),
+        None => walk_in(registry, view, event, hits),
     }
 }
 
-// The walk over panels of a view, aimed by the view's record.
-fn walk_over(record: ViewRecord, panels: ViewPanels, event: ArbitrationEvent, hits: Hits) -> Walked
-    ensures { result ≡ walk_over «record» (standing panels) event hits }
-{
-    let choice = crate::targets::choose(event, record);
-    crate::walk::walk_layers(panels, choice, hits)
-}
-
-// At the last revision the call is refused 21, so its first case is never met by an accepted call.
+// At the last revision the call is refused 21, so an accepted call never stays at it.
 pub fn next_revision(revision: u64) -> u64
     ensures { result ≡ next_revision revision }
 {
-    if revision == u64::MAX {
-        return revision;
-    }
-    revision + 1
-}
-
-// 21 comes before any change here, unlike in the other calls.
-fn arbitrate_refusal(
-    damage: Outcome,
-    unknown: Outcome,
-    revision: u64,
-    hits: Hits,
-    resolved: Outcome,
-) -> Outcome
-    ensures { result ≡ refusal_after damage unknown revision hits resolved }
-{
-    let exhausted = records::error::refuse_if(
-        revision == u64::MAX,
-        CompositionError::RevisionExhausted,
-    );
-    damage.then(unknown.then(hits_refusal(hits).then(resolved.then(exhausted))))
+    revision.saturating_add(1)
 }
 
 pub fn trace_of(
@@ -161,94 +131,55 @@ pub fn trace_of(
 ) -> CompositionTrace
     ensures { result ≡ trace_of revision view event hits walked }
 {
-    let deliveries = walked.deliveries;
-    let consumed_by = walked.consumed_by;
     CompositionTrace {
         revision,
         view,
         event,
         hits,
-        deliveries,
-        consumed_by,
+        deliveries: walked.deliveries,
+        consumed_by: walked.consumed_by,
     }
 }
 
-// What is decided of an event before anything is written: its refusal, and the trace of it.
-#[derive(Clone, Copy)]
-pub struct Decision {
-    pub outcome: Outcome,
-    pub trace: CompositionTrace,
-}
-
-// Who gets the event, and whether the call is refused: by what the damage test and the view's handle refuse, the
-// registry's revision, the view's record, the panels that take part, and what was resolved.
-pub fn decide_with(
-    damage: Outcome,
-    unknown: Outcome,
-    revision: u64,
-    record: ViewRecord,
-    panels: ViewPanels,
-    resolved: Resolved,
-    view: GenerationalHandle,
-    event: ArbitrationEvent,
-    hits: Hits,
-) -> Decision
-    ensures { result ≡ decided_with damage unknown revision «record» (standing panels) resolved view event hits }
-{
-    let own = own_hits(event, hits);
-    let shortcut = resolved.outcome;
-    let winner = resolved.surface;
-    let walked = or_alone(winner, walk_over(record, panels, event, own));
-    let outcome = arbitrate_refusal(damage, unknown, revision, own, shortcut);
-    let trace = trace_of(next_revision(revision), view, event, own, walked);
-    Decision { outcome, trace }
-}
-
-// The same in a registry, once it is tested for damage: everyone takes part.
+// The trace of an event in a registry that is tested for damage, or its refusal, before anything is written. 21 comes
+// before any change here, unlike in the other calls.
+#[tactic(auto, unfolding(crate::specs::Decisions::decided, crate::specs::Decisions::decided_with))]
 pub fn decide(
     damage: Outcome,
     registry: CompositionRegistry,
     view: GenerationalHandle,
     event: ArbitrationEvent,
     hits: Hits,
-) -> Decision
+) -> Result<CompositionTrace, CompositionError>
     ensures { result ≡ decided damage registry view event hits }
 {
-    let record = registry.views.record(view);
-    let layers = record.surfaces;
-    let records = registry.surfaces.records;
-    let panels = gather(records, layers);
-    let resolved = resolve(
+    damage?;
+    registry.views.refusal(view)?;
+    let own = own_hits(event, hits);
+    hits_refusal(own)?;
+    let winner = resolve(
         registry.views,
         registry.surfaces,
         registry.shortcuts,
         view,
         event,
-    );
-    let unknown = registry.views.refusal(view);
-    decide_with(
-        damage,
-        unknown,
-        registry.revision,
-        record,
-        panels,
-        resolved,
-        view,
-        event,
-        hits,
-    )
+    )?;
+    refuse_if(
+        registry.revision == u64::MAX,
+        CompositionError::RevisionExhausted,
+    )?;
+    let walked = reach(registry, view, event, own, winner);
+    Ok(trace_of(next_revision(registry.revision), view, event, own, walked))
 }
 
 // The answer of an accepted arbitration.
 pub fn result_of(trace: CompositionTrace) -> ArbitrationResult
     ensures { result ≡ result_of trace }
 {
-    let deliveries = trace.deliveries;
-    let consumed_by = trace.consumed_by;
     ArbitrationResult {
         revision: trace.revision,
-        deliveries,
-        consumed_by,
+        deliveries: trace.deliveries,
+        consumed_by: trace.consumed_by,
     }
 }
 
@@ -260,10 +191,11 @@ pub fn with_traces_at(
 ) -> CompositionRegistry
     ensures { result ≡ with_revision revision (with_traces traces registry) }
 {
-    let mut next = registry;
-    next.traces = traces;
-    next.revision = revision;
-    next
+    CompositionRegistry {
+        traces,
+        revision,
+        ..registry
+    }
 }
 
 // The hits of the two stack events stand beside the event.
@@ -275,28 +207,18 @@ pub fn arbitrate(
 ) -> Arbitrated
     ensures { result ≡ arbitrated registry view event hits }
 {
-    let decision = decide(registry.damage(), registry, view, event, hits);
-    let outcome = decision.outcome;
-    if let Outcome::Refused(error) = outcome {
-        return Arbitrated {
-            outcome: Outcome::Refused(error),
-            result: ArbitrationResult {
-                revision: 0,
-                deliveries: Deliveries::new(),
-                consumed_by: OptionalHandle::None,
-            },
+    match decide(registry.damage(), registry, view, event, hits) {
+        Ok(trace) => {
+            let limit = registry.limits.max_trace_entries;
+            let traces = push_trace(registry.traces, limit, trace);
+            Answered {
+                outcome: Ok(result_of(trace)),
+                registry: with_traces_at(registry, traces, trace.revision),
+            }
+        }
+        Err(error) => Answered {
+            outcome: Err(error),
             registry,
-        };
-    }
-    let traces = crate::trace::push_trace(
-        registry.traces,
-        registry.limits.max_trace_entries,
-        decision.trace,
-    );
-    let result = result_of(decision.trace);
-    Arbitrated {
-        outcome,
-        result,
-        registry: with_traces_at(registry, traces, decision.trace.revision),
+        },
     }
 }

@@ -1,13 +1,14 @@
 // The walk over panels of a view, from the top until one consumes the event.
-ghost use Rattle.std.specs.Prelude.{◌≡◌, ◌++◌, ◌<◌, length};
-ghost use Rattle.lists.specs.Tables.{entries_of, packed, pushed};
+ghost use Rattle.std.specs.Prelude.{◌≡◌};
+ghost use Rattle.std.specs.List.{fold};
+ghost use Rattle.lists.specs.Tables.{entries_of, pushed_within};
 ghost use Rattle.records.specs.Traces.{hits as state_hits, deliveries as state_deliveries};
 ghost use Rattle.view_panels.specs.Panels.{standing};
 ghost use Rattle.composition_arbitration.specs.Layers.{verdict, delivers, consumes, observes, delivered, verdict_of, walk_of};
 
 use crate::targets::Choice;
-use handles::{GenerationalHandle, OptionalHandle};
-use records::surface::{SurfaceInputPolicy, SurfaceRecord};
+use handles::GenerationalHandle;
+use records::surface::{SurfaceDescriptor, SurfaceInputPolicy, SurfaceRecord};
 use records::trace::{Deliveries, Hits, InputDelivery};
 use view_panels::ViewPanels;
 
@@ -25,29 +26,20 @@ pub enum Verdict {
 #[derive(Clone, Copy)]
 pub struct Walked {
     pub deliveries: Deliveries,
-    pub consumed_by: OptionalHandle,
+    pub consumed_by: Option<GenerationalHandle>,
 }
 
 pub fn verdict_for(input: SurfaceInputPolicy, is_targeted: bool) -> Verdict
     ensures { result ≡ verdict input is_targeted }
 {
-    match input {
-        SurfaceInputPolicy::Observe => Verdict::Observing,
-        SurfaceInputPolicy::Passthrough => {
-            if is_targeted {
-                Verdict::PassedThrough
-            } else {
-                Verdict::NotTargeted
-            }
+    match (input, is_targeted) {
+        (SurfaceInputPolicy::Observe, _) => Verdict::Observing,
+        (SurfaceInputPolicy::Passthrough, true) => Verdict::PassedThrough,
+        (SurfaceInputPolicy::Interactive, true) => Verdict::Took,
+        (SurfaceInputPolicy::Passthrough | SurfaceInputPolicy::Interactive, false) => {
+            Verdict::NotTargeted
         }
-        SurfaceInputPolicy::Interactive => {
-            if is_targeted {
-                Verdict::Took
-            } else {
-                Verdict::NotTargeted
-            }
-        }
-        SurfaceInputPolicy::Exclusive => Verdict::Blocks,
+        (SurfaceInputPolicy::Exclusive, _) => Verdict::Blocks,
     }
 }
 
@@ -55,105 +47,75 @@ impl Verdict {
     pub fn is_delivered(self) -> bool
         ensures { result ≡ delivers self }
     {
-        match self {
-            Verdict::Observing => true,
-            Verdict::NotTargeted => false,
-            Verdict::PassedThrough => true,
-            Verdict::Took => true,
-            Verdict::Blocks => true,
-        }
+        !matches!(self, Verdict::NotTargeted)
     }
 
     pub fn is_consumed(self) -> bool
         ensures { result ≡ consumes self }
     {
-        match self {
-            Verdict::Observing => false,
-            Verdict::NotTargeted => false,
-            Verdict::PassedThrough => false,
-            Verdict::Took => true,
-            Verdict::Blocks => true,
-        }
+        matches!(self, Verdict::Took | Verdict::Blocks)
     }
 
     pub fn is_observed(self) -> bool
         ensures { result ≡ observes self }
     {
-        match self {
-            Verdict::Observing => true,
-            Verdict::NotTargeted => false,
-            Verdict::PassedThrough => false,
-            Verdict::Took => false,
-            Verdict::Blocks => false,
-        }
+        matches!(self, Verdict::Observing)
     }
-}
-
-fn push(deliveries: Deliveries, delivery: InputDelivery) -> Deliveries
-    requires { deliveries.len < 16 }
-    ensures { result ≡ pushed state_deliveries deliveries delivery }
-{
-    let at = deliveries.len;
-    let mut next = deliveries;
-    next.items[at] = delivery;
-    next.len = at + 1;
-    next
 }
 
 // The deliveries, with that of one layer more if its verdict delivers.
 fn deliver(deliveries: Deliveries, surface: GenerationalHandle, verdict: Verdict) -> Deliveries
-    requires deliveries_value { deliveries ≡ packed state_deliveries (entries_of state_deliveries deliveries) }
-    requires deliveries_len_bound { length (entries_of state_deliveries deliveries) < 16 }
-    ensures { result ≡ packed state_deliveries (entries_of state_deliveries deliveries ++ delivered verdict surface) }
+    ensures { result ≡ fold (pushed_within state_deliveries) deliveries (delivered verdict surface) }
 {
     if verdict.is_delivered() {
-        let delivery = InputDelivery {
-            surface,
-            observed: verdict.is_observed(),
-        };
-        return push(deliveries, delivery);
+        let observed = verdict.is_observed();
+        deliveries.push_within(InputDelivery { surface, observed })
+    } else {
+        deliveries
     }
-    deliveries
 }
 
 // The verdict of a panel, by its record.
+#[tactic(auto, unfolding(crate::specs::Layers::verdict_of))]
 fn verdict_of(
-    record: SurfaceRecord,
+    panel: SurfaceRecord,
     choice: Choice,
     hits: Hits,
     surface: GenerationalHandle,
 ) -> Verdict
     ensures { result ≡ verdict_of choice (entries_of state_hits hits)
-        (record { surface = surface; descriptor = «record».descriptor }) }
+        (record { surface = surface; descriptor = panel.descriptor }) }
 {
-    let descriptor = record.descriptor;
-    let input = descriptor.input;
-    let is_targeted = crate::targets::is_targeted(choice, hits, surface, descriptor.accepts_text);
-    verdict_for(input, is_targeted)
+    let SurfaceDescriptor {
+        input,
+        accepts_text,
+        ..
+    } = panel.descriptor;
+    verdict_for(
+        input,
+        crate::targets::is_targeted(choice, hits, surface, accepts_text),
+    )
 }
 
-// The deliveries and the consumer, with the panels walked from the top.
+// The deliveries and the consumer, with the panels walked from the top. A panel and its record stand at one index of
+// two arrays.
 pub fn walk_layers(panels: ViewPanels, choice: Choice, hits: Hits) -> Walked
     ensures { result ≡ walk_of (verdict_of choice (entries_of state_hits hits)) (standing panels) }
 {
-    let layers = panels.layers;
-    let found = panels.records;
     let mut deliveries = Deliveries::new();
-    let mut left = layers.count();
-    while 0 < left {
-        left -= 1;
-        let surface = layers.items[left];
-        let verdict = verdict_of(found[left], choice, hits, surface);
+    for i in (0..panels.layers.count()).rev() {
+        let surface = panels.layers.items[i];
+        let verdict = verdict_of(panels.records[i], choice, hits, surface);
         deliveries = deliver(deliveries, surface, verdict);
         if verdict.is_consumed() {
             return Walked {
                 deliveries,
-                consumed_by: OptionalHandle::Some(surface),
+                consumed_by: Some(surface),
             };
         }
     }
     Walked {
         deliveries,
-        consumed_by: OptionalHandle::None,
+        consumed_by: None,
     }
 }

@@ -1,4 +1,3 @@
-pub mod TopLaws
 pub mod ReportLaws
 pub mod ShutdownLaws
 pub mod ClaimLaws

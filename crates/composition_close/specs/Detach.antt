@@ -1,22 +1,16 @@
 -- A panel leaves its view: RULES.md, Panel close; Layers; and Counter table, its last row.
-use Rattle.std.specs.Prelude.{ℕ, Bool, false, cond, not, ◌||◌, reverse, eqb, length}
-use Rattle.std.proofs.Math.Option.{Option, none, some}
+use Rattle.std.specs.Prelude.{ℕ, Bool, false, cond, not, ◌||◌, reverse, eqb, length, Option, None, Some}
 use Rattle.lists.specs.Lists.{keep, first}
 use Rattle.lists.specs.Tables.{entries_of, packed}
 use Rattle.handles.specs.Handles.{same_handle, holds_handle}
 use Rattle.handles.specs.declared.GenerationalHandle.{GenerationalHandle}
-use Rattle.handles.specs.declared.OptionalHandle.{OptionalHandle}
-use Rattle.handles.specs.declared.OptionalHandle.TheVariants as O
 use Rattle.maps.specs.Captures.{captures}
 use Rattle.maps.specs.MapTables.{retained}
 use Rattle.maps.specs.declared.captures.Capture.{Capture}
-use Rattle.records.specs.declared.layers.Layers.{Layers}
-use Rattle.records.specs.declared.surface.SurfaceTable.{SurfaceTable}
+use Rattle.records.specs.Layers.{Layers, layers, layers_without, is_live}
+use Rattle.records.specs.Surfaces.{SurfaceTable, is_interactive, surface_status, descriptor_of}
 use Rattle.records.specs.declared.view.ViewRecord.{ViewRecord}
-use Rattle.records.specs.declared.view.ViewTable.{ViewTable}
-use Rattle.records.specs.Layers.{layers, layers_without, is_live}
-use Rattle.records.specs.Surfaces.{is_interactive, surface_status, descriptor_of}
-use Rattle.records.specs.Views.{view_at}
+use Rattle.records.specs.Views.{ViewTable, view_at}
 use Rattle.composition_close.specs.declared.answer.SurfaceCloseReport.{SurfaceCloseReport}
 use Rattle.composition_close.specs.Reports.{releases, release_list}
 
@@ -42,17 +36,13 @@ abbrev pub takes_focus : SurfaceTable → GenerationalHandle → Bool
 takes_focus surfaces at =
     cond (is_live (surface_status surfaces at)) (is_interactive (descriptor_of surfaces at).input) false
 
-abbrev pub optional : Option GenerationalHandle → OptionalHandle
-optional none = O.None
-optional (some h) = O.Some h
-
 -- RULES.md, Layers: they go from lowest to highest, so the search is through the list turned round
-unfoldable pub topmost : SurfaceTable → Layers → OptionalHandle
-topmost surfaces t = optional (first (takes_focus surfaces) (reverse (entries_of layers t)))
+unfoldable pub topmost : SurfaceTable → Layers → Option GenerationalHandle
+topmost surfaces t = first (takes_focus surfaces) (reverse (entries_of layers t))
 
 -- the topmost layer left that can have the focus, if the panel had it
-abbrev pub restored_focus : SurfaceTable → ViewRecord → GenerationalHandle → OptionalHandle
-restored_focus surfaces v h = cond (had_focus v h) (topmost surfaces (layers_without h v.surfaces)) O.None
+abbrev pub restored_focus : SurfaceTable → ViewRecord → GenerationalHandle → Option GenerationalHandle
+restored_focus surfaces v h = cond (had_focus v h) (topmost surfaces (layers_without h v.surfaces)) None
 
 -- ---- the view without the panel
 -- the single field empties if the panel had any capture, also where another panel has that field; of the map only the
@@ -63,9 +53,9 @@ detached_view surfaces v h = record {
   metrics = v.metrics;
   surfaces = layers_without h v.surfaces;
   focus = cond (had_focus v h) (restored_focus surfaces v h) v.focus;
-  pointer_capture = cond (had_capture v h) O.None v.pointer_capture;
+  pointer_capture = cond (had_capture v h) None v.pointer_capture;
   pointer_captures = retained captures (λ e. not (is_on_surface h e)) v.pointer_captures;
-  ime = cond (had_ime v h) O.None v.ime;
+  ime = cond (had_ime v h) None v.ime;
 }
 
 -- ---- the report

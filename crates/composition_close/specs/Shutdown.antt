@@ -1,10 +1,10 @@
 -- RULES.md, Shutdown: 21, 22 (a filled slot of generation 4,294,967,295), both before any change, after 42.
 -- After them no close inside is refused (proved in `shutdown_steps`, where it is the Rust's fold of closes): each layer
--- is
--- a live panel of its view (42), no live slot is at its last generation (22), and the revision has room for every step
--- (21); a view has no layer left and a window no view when its turn comes. So the work is the closing steps alone, each
--- what the accepted call does.
-use Rattle.std.specs.Prelude.{ℕ, ◌+◌, Bool, cond, not, ◌&&◌, List, [], ◌∷◌, reverse, ltb}
+-- is a live panel of its view (42), no live slot is at its last generation (22), and the revision has room for every
+-- step (21); a view has no layer left and a window no view when its turn comes. So the work is the closing steps alone,
+-- each what the accepted call does.
+use Rattle.std.specs.Result.{result_and, result_unwrap_or}
+use Rattle.std.specs.Prelude.{ℕ, ◌+◌, Bool, cond, not, ◌&&◌, List, [], ◌∷◌, reverse, ltb, Ok, Err}
 use Rattle.lists.specs.Below.{iter_below}
 use Rattle.lists.specs.Tables.{entries_of, packed, pushed}
 use Rattle.lists.specs.Numbers.{max_u64}
@@ -13,15 +13,14 @@ use Rattle.handles.specs.Slots.{slot_at, released, used_places, none_exhausted, 
 use Rattle.handles.specs.declared.GenerationalHandle.{GenerationalHandle}
 use Rattle.handles.specs.declared.arena.Arena.{Arena}
 use Rattle.records.specs.declared.error.CompositionError.TheVariants.{RevisionExhausted, GenerationExhausted}
-use Rattle.records.specs.declared.error.Outcome.{Outcome}
-use Rattle.records.specs.declared.error.Outcome.TheVariants.{Accepted, Refused}
 use Rattle.composition_state.specs.declared.registry.CompositionRegistry.{CompositionRegistry}
 use Rattle.composition_state.specs.Damage.{damage_refusal, view_handle}
-use Rattle.records.specs.Errors.{then_refusal, refusal_if}
+use Rattle.records.specs.Errors.{refusal_if, Outcome}
 use Rattle.records.specs.Layers.{layers}
 use Rattle.composition_state.specs.Registry.{with_windows, with_views, advanced}
 use Rattle.records.specs.Views.{view_at, view_slots, views_with}
-use Rattle.composition_close.specs.declared.answer.Shutdown.{Shutdown}
+use Rattle.composition_state.specs.declared.registry.Answered.{Answered}
+use Rattle.composition_close.specs.declared.answer.CompositionShutdownReport.{CompositionShutdownReport}
 use Rattle.composition_close.specs.declared.shutdown.Closing.{Closing}
 use Rattle.composition_close.specs.Reports.{close_reports, no_shutdown}
 use Rattle.composition_close.specs.Detach.{close_report}
@@ -38,8 +37,8 @@ is_any_exhausted r =
 
 abbrev pub shutdown_refusal : CompositionRegistry → Outcome
 shutdown_refusal r =
-    then_refusal (damage_refusal r)
-    (then_refusal (refusal_if (is_over r.revision r.surfaces.arena.live r.views.arena.live r.windows.live)
+    result_and (damage_refusal r)
+    (result_and (refusal_if (is_over r.revision r.surfaces.arena.live r.views.arena.live r.windows.live)
     RevisionExhausted)
     (refusal_if (is_any_exhausted r) GenerationExhausted))
 
@@ -95,25 +94,31 @@ window_closed_at i r = cond (slot_at r.windows i).filled (window_closed (window_
 unfoldable pub windows_closed : CompositionRegistry → CompositionRegistry
 windows_closed r = iter_below window_closed_at (used_places r.windows) r
 
+-- a shutdown answers its report; of a refused one it is blank
+abbrev pub Shutdown : Type 0
+Shutdown = Answered CompositionShutdownReport
+
+abbrev pub shutdown_report : Shutdown → CompositionShutdownReport
+shutdown_report x = result_unwrap_or x.outcome no_shutdown
+
 -- the views first, then the windows; the report lists what was live
 unfoldable pub shut_down : CompositionRegistry → Shutdown
 shut_down r =
     let work = views_closed r in
     let after = windows_closed work.registry in
     record {
-      outcome = Accepted;
-      report = record {
+      outcome = Ok (record {
         closed_surfaces = work.reports;
         closed_views = packed handles_table (live_handles r.views.arena);
         closed_windows = packed handles_table (live_handles r.windows);
         final_revision = after.revision;
-      };
+      });
       registry = after;
     }
 
 abbrev pub shutdown_after : Outcome → CompositionRegistry → Shutdown
-shutdown_after Accepted r = shut_down r
-shutdown_after (Refused e) r = record { outcome = Refused e; report = no_shutdown; registry = r }
+shutdown_after (Ok _) r = shut_down r
+shutdown_after (Err e) r = record { outcome = Err e; registry = r }
 
 -- a refused shutdown leaves the registry as it came
 unfoldable pub shutdown_of : CompositionRegistry → Shutdown

@@ -1,12 +1,15 @@
 // What these calls answer beside the refusal and the registry.
-ghost use Rattle.std.specs.Prelude.{◌≡◌, cond, [], ◌<◌};
-ghost use Rattle.lists.specs.Tables.{packed, pushed};
-ghost use Rattle.composition_close.specs.Reports.{releases, entry_of, release_list, no_report, close_reports, no_shutdown};
+#![tactic(auto, unfolding(lists::specs::Tables::packed))]
 
-use composition_state::registry::CompositionRegistry;
+ghost use Rattle.std.specs.Prelude.{◌≡◌, cond};
+ghost use Rattle.lists.specs.Tables.{packed, pushed_within};
+ghost use Rattle.composition_close.specs.Reports.{releases, release_list, no_report, no_shutdown};
+ghost use Rattle.composition_close.specs.declared.answer.SurfaceRelease.TheVariants.{Focus};
+
+use composition_state::registry::Answered;
+use handles::GenerationalHandle;
 use handles::arena::Handles;
-use handles::{GenerationalHandle, OptionalHandle};
-use records::error::Outcome;
+use lists::table::{Blank, Table};
 
 #[derive(Clone, Copy)]
 pub enum SurfaceRelease {
@@ -15,40 +18,22 @@ pub enum SurfaceRelease {
     ImeComposition,
 }
 
-#[derive(Clone, Copy)]
-pub struct ReleasedInput {
-    pub release: SurfaceRelease,
-}
-
 // What a closed panel had: its composition, its capture, its focus, in this order.
-#[derive(Clone, Copy)]
-pub struct SurfaceReleases {
-    pub items: [ReleasedInput; 3],
-    pub len: usize,
-}
+pub type SurfaceReleases = Table<SurfaceRelease, 3>;
 
 #[derive(Clone, Copy)]
 pub struct SurfaceCloseReport {
     pub surface: GenerationalHandle,
     pub releases: SurfaceReleases,
-    pub restored_focus: OptionalHandle,
+    pub restored_focus: Option<GenerationalHandle>,
     pub revision: u64,
 }
 
-// The answer of a close: the report stands if it is accepted, and is blank else.
-#[derive(Clone, Copy)]
-pub struct SurfaceClosed {
-    pub outcome: Outcome,
-    pub report: SurfaceCloseReport,
-    pub registry: CompositionRegistry,
-}
+// A close answers its report.
+pub type SurfaceClosed = Answered<SurfaceCloseReport>;
 
 // The reports of the panels that a shutdown closed: up to 16 in each of 16 views.
-#[derive(Clone, Copy)]
-pub struct CloseReports {
-    pub items: [SurfaceCloseReport; 256],
-    pub len: usize,
-}
+pub type CloseReports = Table<SurfaceCloseReport, 256>;
 
 #[derive(Clone, Copy)]
 pub struct CompositionShutdownReport {
@@ -58,51 +43,47 @@ pub struct CompositionShutdownReport {
     pub final_revision: u64,
 }
 
-// The answer of a shutdown: the report stands if it is accepted, and is blank else.
-#[derive(Clone, Copy)]
-pub struct Shutdown {
-    pub outcome: Outcome,
-    pub report: CompositionShutdownReport,
-    pub registry: CompositionRegistry,
+// A shutdown answers its report.
+pub type Shutdown = Answered<CompositionShutdownReport>;
+
+impl Blank for SurfaceRelease {
+    ghost BLANK = { Focus };
+
+    const BLANK: Self = SurfaceRelease::Focus;
 }
 
-impl SurfaceReleases {
-    fn new() -> Self
-        ensures { result ≡ packed releases [] }
-    {
-        let none = ReleasedInput {
-            release: SurfaceRelease::Focus,
-        };
-        Self {
-            items: [none; 3],
+impl Blank for SurfaceCloseReport {
+    ghost BLANK = { no_report };
+
+    const BLANK: Self = SurfaceCloseReport {
+        surface: GenerationalHandle::ZERO,
+        releases: Table {
+            items: [SurfaceRelease::Focus; 3],
             len: 0,
-        }
-    }
+        },
+        restored_focus: None,
+        revision: 0,
+    };
+}
 
-    // The list with a release at its end, if the panel had it.
-    fn push_if(self, had: bool, release: SurfaceRelease) -> Self
-        requires { self.len < 3 }
-        ensures { result ≡ cond had (pushed releases self (entry_of release)) self }
-    {
-        if had {
-            let at = self.len;
-            let entry = ReleasedInput { release };
-            let mut next = self;
-            next.items[at] = entry;
-            next.len = at + 1;
-            return next;
-        }
-        self
-    }
+// The list with a release at its end, if the panel had it.
+fn push_if(list: SurfaceReleases, had: bool, release: SurfaceRelease) -> SurfaceReleases
+    ensures { result ≡ cond had (pushed_within releases list release) list }
+{
+    if had { list.push_within(release) } else { list }
+}
 
-    pub fn of(had_ime: bool, had_capture: bool, had_focus: bool) -> Self
-        ensures { result ≡ packed releases (release_list had_ime had_capture had_focus) }
-    {
-        SurfaceReleases::new()
-            .push_if(had_ime, SurfaceRelease::ImeComposition)
-            .push_if(had_capture, SurfaceRelease::PointerCapture)
-            .push_if(had_focus, SurfaceRelease::Focus)
-    }
+#[tactic(auto, unfolding(crate::specs::Detach::had_capture))]
+pub fn releases_of(had_ime: bool, had_capture: bool, had_focus: bool) -> SurfaceReleases
+    ensures { result ≡ packed releases (release_list had_ime had_capture had_focus) }
+{
+    let composed = push_if(
+        SurfaceReleases::new(),
+        had_ime,
+        SurfaceRelease::ImeComposition,
+    );
+    let captured = push_if(composed, had_capture, SurfaceRelease::PointerCapture);
+    push_if(captured, had_focus, SurfaceRelease::Focus)
 }
 
 impl SurfaceCloseReport {
@@ -110,29 +91,7 @@ impl SurfaceCloseReport {
     pub fn blank() -> Self
         ensures { result ≡ no_report }
     {
-        let surface = GenerationalHandle {
-            index: 0,
-            generation: 0,
-        };
-        let releases = SurfaceReleases::new();
-        SurfaceCloseReport {
-            surface,
-            releases,
-            restored_focus: OptionalHandle::None,
-            revision: 0,
-        }
-    }
-}
-
-impl CloseReports {
-    pub fn new() -> Self
-        ensures { result ≡ packed close_reports [] }
-    {
-        let none = SurfaceCloseReport::blank();
-        Self {
-            items: [none; 256],
-            len: 0,
-        }
+        Self::BLANK
     }
 }
 
@@ -141,19 +100,10 @@ impl CompositionShutdownReport {
     pub fn blank() -> Self
         ensures { result ≡ no_shutdown }
     {
-        let none = GenerationalHandle {
-            index: 0,
-            generation: 0,
-        };
-        let handles = Handles {
-            items: [none; 64],
-            len: 0,
-        };
-        let reports = CloseReports::new();
         CompositionShutdownReport {
-            closed_surfaces: reports,
-            closed_views: handles,
-            closed_windows: handles,
+            closed_surfaces: CloseReports::new(),
+            closed_views: Handles::new(),
+            closed_windows: Handles::new(),
             final_revision: 0,
         }
     }

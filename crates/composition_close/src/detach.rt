@@ -1,12 +1,13 @@
 // A panel leaves its view: what it had there, where the focus goes, and the report of it.
-ghost use Rattle.std.specs.Prelude.{◌≡◌, cond};
-ghost use Rattle.composition_close.specs.Detach.{takes_focus, topmost, restored_focus, had_capture, detached_view, close_report};
+ghost use Rattle.std.specs.Prelude.{◌≡◌, cond, length, None};
+ghost use Rattle.lists.specs.Lists.{keep};
+ghost use Rattle.composition_close.specs.Detach.{is_on_surface, takes_focus, topmost, restored_focus, had_capture, detached_view, close_report};
 
-use crate::answer::{SurfaceCloseReport, SurfaceReleases};
+use crate::answer::{SurfaceCloseReport, releases_of};
+use handles::GenerationalHandle;
 use handles::arena::SlotStatus;
-use handles::{GenerationalHandle, OptionalHandle, holds};
-use maps::tests::EntryTest;
-use records::layers::Layers;
+use maps::captures::Capture;
+use records::layers::{Layers, layers_without};
 use records::surface::{SurfaceTable, is_interactive};
 use records::view::{ViewRecord, ViewTable};
 
@@ -14,40 +15,21 @@ use records::view::{ViewRecord, ViewTable};
 fn takes_focus(surfaces: SurfaceTable, at: GenerationalHandle) -> bool
     ensures { result ≡ takes_focus surfaces at }
 {
-    match handles::arena::lookup(surfaces.arena, at) {
-        SlotStatus::Live => {
-            let descriptor = surfaces.descriptor(at);
-            let input = descriptor.input;
-            is_interactive(input)
-        }
-        SlotStatus::Invalid => false,
-        SlotStatus::Stale => false,
-    }
+    matches!(handles::arena::lookup(surfaces.arena, at), SlotStatus::Live)
+        && is_interactive(surfaces.descriptor(at).input)
 }
 
 // The topmost layer that can have the focus.
-fn topmost_focus(surfaces: SurfaceTable, remaining: Layers) -> OptionalHandle
+#[tactic(auto, unfolding(crate::specs::Detach::topmost))]
+fn topmost_focus(surfaces: SurfaceTable, remaining: Layers) -> Option<GenerationalHandle>
     ensures { result ≡ topmost surfaces remaining }
 {
-    let n = remaining.count();
-    let mut i = n;
-    while i > 0 {
-        i -= 1;
-        let at = remaining.items[i];
-        if takes_focus(surfaces, at) {
-            return OptionalHandle::Some(at);
-        }
-    }
-    OptionalHandle::None
-}
-
-fn choose(test: bool, yes: OptionalHandle, no: OptionalHandle) -> OptionalHandle
-    ensures { result ≡ cond test yes no }
-{
-    if test {
-        return yes;
-    }
-    no
+    remaining
+        .entries()
+        .iter()
+        .rev()
+        .copied()
+        .find(|at| takes_focus(surfaces, *at))
 }
 
 // Where the focus goes if the panel has it.
@@ -55,31 +37,41 @@ fn restored_focus(
     surfaces: SurfaceTable,
     view: ViewRecord,
     surface: GenerationalHandle,
-) -> OptionalHandle
+) -> Option<GenerationalHandle>
     ensures { result ≡ restored_focus surfaces view surface }
 {
-    let focus = view.focus;
-    let records = surfaces.records;
-    let remaining = view.surfaces.remove(records, surface);
-    choose(
-        holds(focus, surface),
-        topmost_focus(surfaces, remaining),
-        OptionalHandle::None,
-    )
+    if view.focus == Some(surface) {
+        topmost_focus(surfaces, layers_without(view.surfaces, surface))
+    } else {
+        None
+    }
+}
+
+fn count_on(captures: &[Capture], surface: GenerationalHandle) -> usize
+    ensures { result ≡ length (keep (is_on_surface surface) captures.now) }
+{
+    captures
+        .iter()
+        .filter(|capture| surface == capture.surface)
+        .count()
 }
 
 // Whether the panel has the view's single field or a pointer of its map.
+#[tactic(auto, unfolding(crate::specs::Detach::had_capture))]
 fn had_capture(view: ViewRecord, surface: GenerationalHandle) -> bool
     ensures { result ≡ had_capture view surface }
 {
-    let holder = view.pointer_capture;
-    let own = view.pointer_captures.retain(EntryTest::OnSurface(surface));
-    if holds(holder, surface) {
-        return true;
-    }
-    own.len != 0
+    view.pointer_capture == Some(surface) || count_on(view.pointer_captures.entries(), surface) != 0
 }
 
+// What is left where a panel has gone: nothing, if it was the panel's.
+fn left_if(gone: bool, held: Option<GenerationalHandle>) -> Option<GenerationalHandle>
+    ensures { result ≡ cond gone None held }
+{
+    if gone { None } else { held }
+}
+
+#[tactic(auto, unfolding(crate::specs::Detach::detached_view))]
 pub fn detached_view(
     surfaces: SurfaceTable,
     view: ViewRecord,
@@ -87,33 +79,24 @@ pub fn detached_view(
 ) -> ViewRecord
     ensures { result ≡ detached_view surfaces view surface }
 {
-    let window = view.window;
-    let metrics = view.metrics;
-    let focused = view.focus;
-    let holder = view.pointer_capture;
-    let composing = view.ime;
-    let records = surfaces.records;
-    let remaining = view.surfaces.remove(records, surface);
-    let restored = restored_focus(surfaces, view, surface);
-    let focus = choose(holds(focused, surface), restored, focused);
-    let captured = had_capture(view, surface);
-    let pointer_capture = choose(captured, OptionalHandle::None, holder);
-    let pointer_captures = view
-        .pointer_captures
-        .retain(EntryTest::NotOnSurface(surface));
-    let ime = choose(holds(composing, surface), OptionalHandle::None, composing);
     ViewRecord {
-        window,
-        metrics,
-        surfaces: remaining,
-        focus,
-        pointer_capture,
-        pointer_captures,
-        ime,
+        surfaces: layers_without(view.surfaces, surface),
+        focus: if view.focus == Some(surface) {
+            restored_focus(surfaces, view, surface)
+        } else {
+            view.focus
+        },
+        pointer_capture: left_if(had_capture(view, surface), view.pointer_capture),
+        pointer_captures: view
+            .pointer_captures
+            .retain(|capture| surface != capture.surface),
+        ime: left_if(view.ime == Some(surface), view.ime),
+        ..view
     }
 }
 
 // The report of a panel's close, from its view as it was, with the revision after it.
+#[tactic(auto, unfolding(crate::specs::Detach::close_report))]
 pub fn close_report(
     surfaces: SurfaceTable,
     views: ViewTable,
@@ -122,19 +105,15 @@ pub fn close_report(
 ) -> SurfaceCloseReport
     ensures { result ≡ close_report surfaces views surface revision }
 {
-    let descriptor = surfaces.descriptor(surface);
-    let view = views.record(descriptor.view);
-    let focus = view.focus;
-    let ime = view.ime;
-    let composing = holds(ime, surface);
-    let captured = had_capture(view, surface);
-    let focused = holds(focus, surface);
-    let releases = SurfaceReleases::of(composing, captured, focused);
-    let restored = restored_focus(surfaces, view, surface);
+    let view = views.record(surfaces.descriptor(surface).view);
     SurfaceCloseReport {
         surface,
-        releases,
-        restored_focus: restored,
+        releases: releases_of(
+            view.ime == Some(surface),
+            had_capture(view, surface),
+            view.focus == Some(surface),
+        ),
+        restored_focus: restored_focus(surfaces, view, surface),
         revision,
     }
 }

@@ -1,7 +1,8 @@
 -- A list of captures gathered from maps of captures: each map is copied entry by entry after what the list holds, and each has at most 32.
 use Prim.Native.Nat.{ℕ, ◌+◌, ◌*◌, ◌≤◌}
 use mathlib.Core.Path.{◌≡◌, ◌∙◌}
-use mathlib.Core.List.{List, [], ◌++◌, foldl}
+use mathlib.Core.List.{List, [], ◌++◌}
+use Rattle.std.specs.List.{fold}
 use native.Mathlib.Omega.{arith}
 use borrow.Author.Tests.{ltb-true}
 use lib.Dec.{ltb}
@@ -11,13 +12,10 @@ use Rattle.lists.specs.Tables.{entries_of, packed, pushed_within}
 use Rattle.lists.proofs.BelowLaws.{iter_more}
 use Rattle.lists.proofs.ListLaws.{by_test}
 use Rattle.lists.proofs.TableLaws.{entries_packed, all_within}
-use Rattle.maps.specs.Captures.{captures}
+use Rattle.maps.specs.Captures.{captures, PointerCaptures}
 use Rattle.maps.specs.declared.captures.Capture.{Capture}
-use Rattle.maps.specs.declared.captures.PointerCaptures.{PointerCaptures}
-use Rattle.records.specs.declared.view.ViewTable.{ViewTable}
-use Rattle.records.specs.Views.{view_slots}
-use Rattle.release_lists.specs.declared.captures.CaptureList.{CaptureList}
-use Rattle.release_lists.specs.Captures.{capture_list}
+use Rattle.records.specs.Views.{ViewTable, view_slots}
+use Rattle.release_lists.specs.Captures.{CaptureList, capture_list}
 
 -- ---- what the maps of the slots below n hold, slot by slot
 abbrev pub gathered : (ℕ → List Capture) → ℕ → List Capture
@@ -32,7 +30,7 @@ module _ (f : ℕ → List Capture) (i : ℕ) where
 
   pub gathered_turn : (list next : CaptureList) (m : PointerCaptures) → list ≡ packed capture_list (gathered f i) → m ≡ packed captures (f i)
       → length (gathered f i) + length (f i) ≤ 512
-      → next ≡ foldl (pushed_within capture_list) list (entries_of captures m) → next ≡ packed capture_list (gathered f (i + 1))
+      → next ≡ fold (pushed_within capture_list) list (entries_of captures m) → next ≡ packed capture_list (gathered f (i + 1))
   gathered_turn list next m a b room e =
       e ∙ rw (a, b, entries_packed captures (f i), all_within capture_list (gathered f i) (f i) room, gathered_more)
 

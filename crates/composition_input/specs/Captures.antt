@@ -1,33 +1,30 @@
 -- RULES.md, Focus, captures, compositions: capture 20, 18 for a bad pointer, 11/12, 18, 8/9, 41, 21; release of a
 -- pointer 20, 11/12, 8/9, 18, 21; device captures 18, 21. Each after 42.
-use Rattle.std.specs.Prelude.{ℕ, Bool, cond, not, ◌&&◌, ◌||◌, List, [], ◌++◌, length, eqb}
+use Rattle.std.specs.Result.{result_and, result_unwrap_or}
+use Rattle.std.specs.Prelude.{ℕ, Bool, cond, not, ◌&&◌, ◌||◌, List, [], ◌++◌, length, eqb, None, Some}
 use Rattle.lists.specs.Lists.{keep}
 use Rattle.lists.specs.Below.{iter_below}
 use Rattle.lists.specs.Tables.{entries_of, packed}
 use Rattle.handles.specs.Handles.{holds_handle}
 use Rattle.handles.specs.Slots.{slot_at}
 use Rattle.handles.specs.declared.GenerationalHandle.{GenerationalHandle}
-use Rattle.handles.specs.declared.OptionalHandle.TheVariants as O
 use Rattle.maps.specs.Keys.{pointer_valid, pointer_key, key_same, device_same}
 use Rattle.maps.specs.MapTables.{is_some, found, removed, retained, accepts, inserted}
-use Rattle.maps.specs.Captures.{captures, capture_key, surface_of}
+use Rattle.maps.specs.Captures.{captures, capture_key, surface_of, PointerCaptures}
 use Rattle.maps.specs.declared.keys.CompositionPointerId.{CompositionPointerId}
 use Rattle.maps.specs.declared.captures.Capture.{Capture}
-use Rattle.maps.specs.declared.captures.PointerCaptures.{PointerCaptures}
-use Rattle.release_lists.specs.Captures.{capture_list}
+use Rattle.release_lists.specs.Captures.{CaptureList, capture_list}
 use Rattle.records.specs.declared.error.CompositionError.TheVariants.{NotInteractive, PortLimit}
-use Rattle.records.specs.declared.error.Outcome.{Outcome}
 use Rattle.composition_state.specs.declared.registry.CompositionRegistry.{CompositionRegistry}
-use Rattle.composition_state.specs.declared.registry.Changed.{Changed}
+use Rattle.composition_state.specs.Registry.{Changed}
 use Rattle.records.specs.declared.view.ViewRecord.{ViewRecord}
-use Rattle.records.specs.declared.view.ViewTable.{ViewTable}
-use Rattle.records.specs.Errors.{then_refusal, refusal_if, is_accepted}
+use Rattle.records.specs.Views.{ViewTable, view_at, view_refusal, view_slots, with_view, with_pointer_capture, with_pointer_captures}
+use Rattle.records.specs.Errors.{refusal_if, Outcome}
 use Rattle.composition_state.specs.Damage.{damage_refusal, view_handle}
-use Rattle.composition_state.specs.Registry.{with_views, settled, answered}
+use Rattle.composition_state.specs.Registry.{with_views, settled, answered, answered_with}
 use Rattle.records.specs.Surfaces.{surface_refusal}
-use Rattle.records.specs.Views.{view_at, view_refusal, view_slots, with_view, with_pointer_capture, with_pointer_captures}
 use Rattle.composition_input.specs.Focus.{entry_refusal, own_view, interactive_refusal, with_view_record}
-use Rattle.composition_input.specs.declared.answer.CapturesReleased.{CapturesReleased}
+use Rattle.composition_state.specs.declared.registry.Answered.{Answered}
 
 -- RULES.md, Validity: PRIMARY, the pointer of device 1, generation 1, contact 0
 abbrev pub primary : CompositionPointerId
@@ -46,11 +43,11 @@ own_record r surface = view_at r.views (own_view r surface)
 -- ---- capture
 abbrev pub capture_refusal : CompositionRegistry → CompositionPointerId → GenerationalHandle → ℕ → Outcome
 capture_refusal r p surface expected =
-    then_refusal (entry_refusal r expected)
-    (then_refusal (refusal_if (not (pointer_valid p)) NotInteractive)
-    (then_refusal (surface_refusal r.surfaces surface)
-    (then_refusal (interactive_refusal r surface)
-    (then_refusal (view_refusal r.views (own_view r surface))
+    result_and (entry_refusal r expected)
+    (result_and (refusal_if (not (pointer_valid p)) NotInteractive)
+    (result_and (surface_refusal r.surfaces surface)
+    (result_and (interactive_refusal r surface)
+    (result_and (view_refusal r.views (own_view r surface))
     (refusal_if (not (accepts captures capture_key (capture p surface) (own_record r surface).pointer_captures))
     PortLimit)))))
 
@@ -58,7 +55,7 @@ capture_refusal r p surface expected =
 abbrev pub captured_view : CompositionPointerId → GenerationalHandle → ViewRecord → ViewRecord
 captured_view p surface v =
     let taken = with_pointer_captures (inserted captures capture_key (capture p surface) v.pointer_captures) v in
-    cond (is_primary p) (with_pointer_capture (O.Some surface) taken) taken
+    cond (is_primary p) (with_pointer_capture (Some surface) taken) taken
 
 unfoldable pub capture_pointer_for : CompositionRegistry → CompositionPointerId → GenerationalHandle → ℕ → Changed
 capture_pointer_for r p surface expected =
@@ -70,17 +67,17 @@ capture_pointer_for r p surface expected =
 abbrev pub released_view : CompositionPointerId → ViewRecord → ViewRecord
 released_view p v =
     let left = with_pointer_captures (removed captures capture_key (pointer_key p) v.pointer_captures) v in
-    cond (is_primary p) (with_pointer_capture O.None left) left
+    cond (is_primary p) (with_pointer_capture None left) left
 
 -- what both releases refuse before they look whether the panel has the pointer
 abbrev pub owner_refusal : CompositionRegistry → GenerationalHandle → ℕ → Outcome
 owner_refusal r surface expected =
-    then_refusal (entry_refusal r expected)
-    (then_refusal (surface_refusal r.surfaces surface) (view_refusal r.views (own_view r surface)))
+    result_and (entry_refusal r expected)
+    (result_and (surface_refusal r.surfaces surface) (view_refusal r.views (own_view r surface)))
 
 abbrev pub release_for_refusal : CompositionRegistry → CompositionPointerId → GenerationalHandle → ℕ → Outcome
 release_for_refusal r p surface expected =
-    then_refusal (owner_refusal r surface expected)
+    result_and (owner_refusal r surface expected)
     (refusal_if (not (holds_handle
     (surface_of (found captures capture_key (pointer_key p) (own_record r surface).pointer_captures)) surface))
     NotInteractive)
@@ -93,7 +90,7 @@ release_pointer_for r p surface expected =
 -- the plain release goes by the view's single field
 abbrev pub release_refusal : CompositionRegistry → GenerationalHandle → ℕ → Outcome
 release_refusal r surface expected =
-    then_refusal (owner_refusal r surface expected)
+    result_and (owner_refusal r surface expected)
     (refusal_if (not (holds_handle (own_record r surface).pointer_capture surface)) NotInteractive)
 
 unfoldable pub release_pointer : CompositionRegistry → GenerationalHandle → ℕ → Changed
@@ -117,7 +114,7 @@ abbrev pub left_view : ℕ → ℕ → ViewRecord → ViewRecord
 left_view device generation v =
     let left =
     with_pointer_captures (retained captures (λ e. not (is_of_device device generation e)) v.pointer_captures) v in
-    cond (loses_primary device generation v.pointer_captures) (with_pointer_capture O.None left) left
+    cond (loses_primary device generation v.pointer_captures) (with_pointer_capture None left) left
 
 -- the captures of the device in the view of a slot
 abbrev pub taken_at : ViewTable → ℕ → ℕ → ℕ → List Capture
@@ -140,16 +137,15 @@ device_cleared views device generation = iter_below (cleared_at device generatio
 
 abbrev pub device_refusal : CompositionRegistry → ℕ → ℕ → Outcome
 device_refusal r device generation =
-    then_refusal (damage_refusal r) (refusal_if (eqb device 0 || eqb generation 0) NotInteractive)
+    result_and (damage_refusal r) (refusal_if (eqb device 0 || eqb generation 0) NotInteractive)
 
--- the list stands if the call is accepted
-abbrev pub captures_released : List Capture → Changed → CapturesReleased
-captures_released l c =
-    record {
-      outcome = c.outcome;
-      released = packed capture_list (cond (is_accepted c.outcome) l []);
-      registry = c.registry;
-    }
+-- the answer of a release by device: the captures that end
+abbrev pub CapturesReleased : Type 0
+CapturesReleased = Answered CaptureList
+
+-- what such a release lists: nothing where it is refused
+abbrev pub listed_captures : CapturesReleased → CaptureList
+listed_captures x = result_unwrap_or x.outcome (packed capture_list [])
 
 -- the revision rises only if a capture is let go
 abbrev pub device_settled : CompositionRegistry → ℕ → ℕ → Changed
@@ -160,4 +156,4 @@ device_settled r device generation =
 
 unfoldable pub release_device_pointer_captures : CompositionRegistry → ℕ → ℕ → CapturesReleased
 release_device_pointer_captures r device generation =
-    captures_released (device_captures r.views device generation) (device_settled r device generation)
+    answered_with (packed capture_list (device_captures r.views device generation)) (device_settled r device generation)

@@ -1,26 +1,10 @@
-// What these calls answer beside the refusal and the registry.
-use composition_state::registry::CompositionRegistry;
-use records::error::Outcome;
+// What these calls answer beside the registry.
+use composition_state::registry::Answered;
 use records::view::ViewInputState;
 use release_lists::captures::CaptureList;
 
-#[derive(Clone, Copy)]
-pub enum OptionalInputState {
-    None,
-    Some(ViewInputState),
-}
+// A suspend answers what was let go.
+pub type Suspended = Answered<ViewInputState>;
 
-// The answer of a suspend: what was let go stands if it is accepted.
-#[derive(Clone, Copy)]
-pub struct Suspended {
-    pub outcome: Outcome,
-    pub released: OptionalInputState,
-    pub registry: CompositionRegistry,
-}
-
-#[derive(Clone, Copy)]
-pub struct CapturesReleased {
-    pub outcome: Outcome,
-    pub released: CaptureList,
-    pub registry: CompositionRegistry,
-}
+// A release by device answers the captures that end.
+pub type CapturesReleased = Answered<CaptureList>;

@@ -1,11 +1,11 @@
 // Focus, compositions of text, and the suspension of a view's input.
 ghost use Rattle.std.specs.Prelude.{◌≡◌};
-ghost use Rattle.composition_input.specs.Focus.{focus_target_refusal, set_focus, begin_ime, end_ime, suspended_view, suspended, suspend_view_input};
+ghost use Rattle.composition_input.specs.Focus.{focus_target_refusal, focus_refusal, set_focus, begin_ime_refusal, begin_ime, end_ime_refusal, end_ime, suspend_refusal, suspended_view, suspend_view_input};
 
-use crate::answer::{OptionalInputState, Suspended};
-use crate::refusal::entry_refusal;
-use composition_state::registry::{Changed, CompositionRegistry};
-use handles::{GenerationalHandle, OptionalHandle, holds, same_handle};
+use crate::answer::Suspended;
+use crate::refusal::{entry_refusal, with_view_record};
+use composition_state::registry::{Answered, Changed, CompositionRegistry};
+use handles::GenerationalHandle;
 use maps::captures::PointerCaptures;
 use records::error::{CompositionError, Outcome, refuse_if};
 use records::surface::is_interactive;
@@ -15,49 +15,68 @@ use records::view::{ViewInputState, ViewRecord};
 fn focus_target_refusal(
     registry: CompositionRegistry,
     view: GenerationalHandle,
-    target: OptionalHandle,
+    target: Option<GenerationalHandle>,
 ) -> Outcome
     ensures { result ≡ focus_target_refusal registry view target }
 {
-    match target {
-        OptionalHandle::None => Outcome::Accepted,
-        OptionalHandle::Some(surface) => {
-            let descriptor = registry.surfaces.descriptor(surface);
-            let input = descriptor.input;
-            let other_view = refuse_if(
-                !same_handle(descriptor.view, view),
-                CompositionError::WrongView,
-            );
-            let inactive = refuse_if(!is_interactive(input), CompositionError::NotInteractive);
-            registry
-                .surfaces
-                .refusal(surface)
-                .then(other_view.then(inactive))
-        }
-    }
+    let Some(surface) = target else {
+        return Ok(());
+    };
+    registry.surfaces.refusal(surface)?;
+    let descriptor = registry.surfaces.descriptor(surface);
+    refuse_if(descriptor.view != view, CompositionError::WrongView)?;
+    refuse_if(
+        !is_interactive(descriptor.input),
+        CompositionError::NotInteractive,
+    )
+}
+
+fn focus_refusal(
+    registry: CompositionRegistry,
+    view: GenerationalHandle,
+    surface: Option<GenerationalHandle>,
+    expected_revision: u64,
+) -> Outcome
+    ensures { result ≡ focus_refusal registry view surface expected_revision }
+{
+    entry_refusal(registry, expected_revision)?;
+    focus_target_refusal(registry, view, surface)?;
+    registry.views.refusal(view)
 }
 
 // The panel that keys and text of a view go to, or none.
+#[tactic(auto, unfolding(crate::specs::Focus::set_focus))]
 pub fn set_focus(
     registry: CompositionRegistry,
     view: GenerationalHandle,
-    surface: OptionalHandle,
+    surface: Option<GenerationalHandle>,
     expected_revision: u64,
 ) -> Changed
     ensures { result ≡ set_focus registry view surface expected_revision }
 {
-    let target = focus_target_refusal(registry, view, surface);
-    let refusal = entry_refusal(registry, expected_revision).then(target.then(
-        registry.views.refusal(view),
-    ));
+    let refusal = focus_refusal(registry, view, surface, expected_revision);
     let record = registry.views.record(view).with_focus(surface);
-    registry.settle(
-        refusal,
-        registry.with_views(registry.views.with_record(view, record)),
-    )
+    registry.settle(refusal, with_view_record(registry, view, record))
+}
+
+fn begin_ime_refusal(
+    registry: CompositionRegistry,
+    surface: GenerationalHandle,
+    expected_revision: u64,
+) -> Outcome
+    ensures { result ≡ begin_ime_refusal registry surface expected_revision }
+{
+    entry_refusal(registry, expected_revision)?;
+    registry.surfaces.refusal(surface)?;
+    let descriptor = registry.surfaces.descriptor(surface);
+    refuse_if(!descriptor.accepts_text, CompositionError::TextUnsupported)?;
+    registry.views.refusal(descriptor.view)?;
+    let focus = registry.views.record(descriptor.view).focus;
+    refuse_if(focus != Some(surface), CompositionError::NotInteractive)
 }
 
 // A panel with the focus that accepts text starts a composition of text.
+#[tactic(auto, unfolding(crate::specs::Focus::begin_ime))]
 pub fn begin_ime(
     registry: CompositionRegistry,
     surface: GenerationalHandle,
@@ -65,25 +84,29 @@ pub fn begin_ime(
 ) -> Changed
     ensures { result ≡ begin_ime registry surface expected_revision }
 {
-    let surfaces = registry.surfaces;
-    let descriptor = surfaces.descriptor(surface);
-    let record = registry.views.record(descriptor.view);
-    let focus = record.focus;
-    let no_text = refuse_if(!descriptor.accepts_text, CompositionError::TextUnsupported);
-    let unfocused = refuse_if(!holds(focus, surface), CompositionError::NotInteractive);
-    let refusal = entry_refusal(registry, expected_revision).then(
-        surfaces.refusal(surface).then(no_text.then(
-            registry.views.refusal(descriptor.view).then(unfocused),
-        )),
-    );
-    let begun = record.with_ime(OptionalHandle::Some(surface));
-    registry.settle(
-        refusal,
-        registry.with_views(registry.views.with_record(descriptor.view, begun)),
-    )
+    let view = registry.surfaces.descriptor(surface).view;
+    let refusal = begin_ime_refusal(registry, surface, expected_revision);
+    let begun = registry.views.record(view).with_ime(Some(surface));
+    registry.settle(refusal, with_view_record(registry, view, begun))
+}
+
+fn end_ime_refusal(
+    registry: CompositionRegistry,
+    surface: GenerationalHandle,
+    expected_revision: u64,
+) -> Outcome
+    ensures { result ≡ end_ime_refusal registry surface expected_revision }
+{
+    entry_refusal(registry, expected_revision)?;
+    registry.surfaces.refusal(surface)?;
+    let view = registry.surfaces.descriptor(surface).view;
+    registry.views.refusal(view)?;
+    let ime = registry.views.record(view).ime;
+    refuse_if(ime != Some(surface), CompositionError::NotInteractive)
 }
 
 // A panel ends its composition of text.
+#[tactic(auto, unfolding(crate::specs::Focus::end_ime))]
 pub fn end_ime(
     registry: CompositionRegistry,
     surface: GenerationalHandle,
@@ -91,53 +114,35 @@ pub fn end_ime(
 ) -> Changed
     ensures { result ≡ end_ime registry surface expected_revision }
 {
-    let surfaces = registry.surfaces;
-    let descriptor = surfaces.descriptor(surface);
-    let record = registry.views.record(descriptor.view);
-    let ime = record.ime;
-    let not_begun = refuse_if(!holds(ime, surface), CompositionError::NotInteractive);
-    let refusal = entry_refusal(registry, expected_revision).then(
-        surfaces
-            .refusal(surface)
-            .then(registry.views.refusal(descriptor.view).then(not_begun)),
-    );
-    let ended = record.with_ime(OptionalHandle::None);
-    registry.settle(
-        refusal,
-        registry.with_views(registry.views.with_record(descriptor.view, ended)),
-    )
+    let view = registry.surfaces.descriptor(surface).view;
+    let refusal = end_ime_refusal(registry, surface, expected_revision);
+    let ended = registry.views.record(view).with_ime(None);
+    registry.settle(refusal, with_view_record(registry, view, ended))
 }
 
 // A view with no focus, capture or composition.
 fn suspended_view(view: ViewRecord) -> ViewRecord
     ensures { result ≡ suspended_view view }
 {
-    view.with_focus(OptionalHandle::None)
-        .with_pointer_capture(OptionalHandle::None)
+    view.with_focus(None)
+        .with_pointer_capture(None)
         .with_pointer_captures(PointerCaptures::new())
-        .with_ime(OptionalHandle::None)
+        .with_ime(None)
 }
 
-fn suspended_with(state: ViewInputState, changed: Changed) -> Suspended
-    ensures { result ≡ suspended state changed }
+fn suspend_refusal(
+    registry: CompositionRegistry,
+    view: GenerationalHandle,
+    expected_revision: u64,
+) -> Outcome
+    ensures { result ≡ suspend_refusal registry view expected_revision }
 {
-    let outcome = changed.outcome;
-    let registry = changed.registry;
-    if outcome.is_accepted() {
-        return Suspended {
-            outcome,
-            released: OptionalInputState::Some(state),
-            registry,
-        };
-    }
-    Suspended {
-        outcome,
-        released: OptionalInputState::None,
-        registry,
-    }
+    entry_refusal(registry, expected_revision)?;
+    registry.views.refusal(view)
 }
 
 // A view loses its focus, its captures and its composition; the answer says what was lost.
+#[tactic(auto, unfolding(crate::specs::Focus::suspend_view_input))]
 pub fn suspend_view_input(
     registry: CompositionRegistry,
     view: GenerationalHandle,
@@ -146,14 +151,12 @@ pub fn suspend_view_input(
     ensures { result ≡ suspend_view_input registry view expected_revision }
 {
     let record = registry.views.record(view);
-    let refusal = entry_refusal(registry, expected_revision).then(registry.views.refusal(view));
-    let state = record.input_state();
-    let next = suspended_view(record);
-    suspended_with(
-        state,
+    let refusal = suspend_refusal(registry, view, expected_revision);
+    Answered::with(
+        record.input_state(),
         registry.settle(
             refusal,
-            registry.with_views(registry.views.with_record(view, next)),
+            with_view_record(registry, view, suspended_view(record)),
         ),
     )
 }

@@ -1,4 +1,5 @@
 -- RULES.md, Panels: attach 13, 8/9, 4, 3, 21; geometry 20, 13, 11/12, 21; policy 20, 11/12, 21. Each after 42.
+use Rattle.std.specs.Result.{result_and}
 use Rattle.std.specs.Prelude.{ℕ, not, List, length, eqb}
 use Rattle.lists.specs.Tables.{entries_of}
 use Rattle.geometry.specs.Surface.{is_valid_geometry}
@@ -7,23 +8,22 @@ use Rattle.handles.specs.Slots.{allocated}
 use Rattle.handles.specs.declared.GenerationalHandle.{GenerationalHandle}
 use Rattle.handles.specs.declared.arena.Allocation.{Allocation}
 use Rattle.records.specs.declared.error.CompositionError.TheVariants.{Capacity, PerViewCapacity, InvalidGeometry}
-use Rattle.records.specs.declared.error.Outcome.{Outcome}
 use Rattle.composition_state.specs.declared.registry.CompositionRegistry.{CompositionRegistry}
-use Rattle.composition_state.specs.declared.registry.Changed.{Changed}
+use Rattle.composition_state.specs.Registry.{Changed}
 use Rattle.records.specs.declared.surface.SurfaceDescriptor.{SurfaceDescriptor}
 use Rattle.records.specs.declared.surface.SurfaceInputPolicy.{SurfaceInputPolicy}
 use Rattle.records.specs.declared.surface.SurfaceRecord.{SurfaceRecord}
-use Rattle.records.specs.declared.surface.SurfaceTable.{SurfaceTable}
-use Rattle.records.specs.declared.view.ViewTable.{ViewTable}
-use Rattle.records.specs.Errors.{then_refusal, refusal_if}
+use Rattle.records.specs.Surfaces.{SurfaceTable, surface_at, surface_refusal, with_surface, surfaces_with, with_geometry, with_input}
+use Rattle.records.specs.Views.{ViewTable, view_at, view_refusal, with_view, with_layers}
+use Rattle.records.specs.Errors.{refusal_if, Outcome}
 use Rattle.composition_state.specs.Damage.{damage_refusal}
 use Rattle.records.specs.Layers.{layers, layers_with}
 use Rattle.composition_state.specs.Registry.{with_views, with_surfaces, with_shortcuts, conflict_refusal, settled}
 use Rattle.records.specs.Shortcuts.{shortcuts_without}
 use Rattle.records.specs.Surfaces.{surface_at, surface_refusal, with_surface, surfaces_with, with_geometry, with_input}
 use Rattle.records.specs.Views.{view_at, view_refusal, with_view, with_layers}
-use Rattle.composition_panels.specs.declared.answer.Created.{Created}
-use Rattle.composition_panels.specs.Windows.{created}
+use Rattle.composition_state.specs.Registry.{answered_with}
+use Rattle.composition_panels.specs.Windows.{Created}
 
 -- ---- attach
 abbrev pub layer_count : ViewTable → GenerationalHandle → ℕ
@@ -31,10 +31,10 @@ layer_count views view = length (entries_of layers (view_at views view).surfaces
 
 abbrev pub attach_refusal : CompositionRegistry → SurfaceDescriptor → Outcome
 attach_refusal r d =
-    then_refusal (damage_refusal r)
-    (then_refusal (refusal_if (not (is_valid_geometry d.geometry)) InvalidGeometry)
-    (then_refusal (view_refusal r.views d.view)
-    (then_refusal (refusal_if (eqb (layer_count r.views d.view) r.limits.max_surfaces_per_view)
+    result_and (damage_refusal r)
+    (result_and (refusal_if (not (is_valid_geometry d.geometry)) InvalidGeometry)
+    (result_and (view_refusal r.views d.view)
+    (result_and (refusal_if (eqb (layer_count r.views d.view) r.limits.max_surfaces_per_view)
     PerViewCapacity)
     (refusal_if (eqb r.surfaces.arena.live r.limits.max_surfaces) Capacity))))
 
@@ -59,14 +59,14 @@ attached made d r =
     (with_surfaces surfaces r))
 
 unfoldable pub attach_surface : CompositionRegistry → SurfaceDescriptor → Created
-attach_surface r d = created (new_surface r).handle (settled (attach_refusal r d) r (attached (new_surface r) d r))
+attach_surface r d = answered_with (new_surface r).handle (settled (attach_refusal r d) r (attached (new_surface r) d r))
 
 -- ---- geometry
 abbrev pub geometry_refusal : CompositionRegistry → GenerationalHandle → SurfaceGeometry → ℕ → Outcome
 geometry_refusal r surface g expected =
-    then_refusal (damage_refusal r)
-    (then_refusal (conflict_refusal r.revision expected)
-    (then_refusal (refusal_if (not (is_valid_geometry g)) InvalidGeometry)
+    result_and (damage_refusal r)
+    (result_and (conflict_refusal r.revision expected)
+    (result_and (refusal_if (not (is_valid_geometry g)) InvalidGeometry)
     (surface_refusal r.surfaces surface)))
 
 unfoldable pub update_surface_geometry : CompositionRegistry → GenerationalHandle → SurfaceGeometry → ℕ → Changed
@@ -77,8 +77,8 @@ update_surface_geometry r surface g expected =
 -- ---- policy
 abbrev pub policy_refusal : CompositionRegistry → GenerationalHandle → ℕ → Outcome
 policy_refusal r surface expected =
-    then_refusal (damage_refusal r)
-    (then_refusal (conflict_refusal r.revision expected) (surface_refusal r.surfaces surface))
+    result_and (damage_refusal r)
+    (result_and (conflict_refusal r.revision expected) (surface_refusal r.surfaces surface))
 
 unfoldable pub update_surface_input_policy : CompositionRegistry → GenerationalHandle → SurfaceInputPolicy → ℕ → Changed
 update_surface_input_policy r surface input expected =

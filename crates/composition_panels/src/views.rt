@@ -2,67 +2,69 @@
 ghost use Rattle.std.specs.Prelude.{◌≡◌};
 ghost use Rattle.composition_panels.specs.Windows.{create_view_refusal, create_view, has_layers, close_view_refusal, close_view};
 
-use crate::answer::Created;
-use composition_state::registry::{Changed, CompositionRegistry};
+use crate::answer::{Created, refuse_exhausted};
+use composition_state::registry::{Answered, Changed, CompositionRegistry, window_refusal};
 use handles::GenerationalHandle;
-use records::error::{CompositionError, Outcome};
+use handles::arena::{allocate, release};
+use records::error::{CompositionError, Outcome, refuse_if};
 use records::view::{ViewRecord, ViewTable};
 
 fn create_view_refusal(registry: CompositionRegistry, window: GenerationalHandle) -> Outcome
     ensures { result ≡ create_view_refusal registry window }
 {
-    let full = (registry.views.arena.live as u64) == registry.limits.max_views;
-    let capacity = records::error::refuse_if(full, CompositionError::Capacity);
-    let live = composition_state::registry::window_refusal(registry.windows, window);
-    registry.damage().then(live.then(capacity))
+    registry.damage()?;
+    window_refusal(registry.windows, window)?;
+    let live = registry.views.arena.live as u64;
+    refuse_if(
+        live == registry.limits.max_views,
+        CompositionError::Capacity,
+    )
 }
 
 // A new view in a window.
+#[tactic(auto, unfolding(crate::specs::Windows::create_view))]
 pub fn create_view(registry: CompositionRegistry, window: GenerationalHandle) -> Created
     ensures { result ≡ create_view registry window }
 {
-    let views = registry.views;
-    let made = handles::arena::allocate(views.arena, registry.first_generation);
-    let handle = made.handle;
-    let changed = views
-        .with_arena(made.arena)
-        .with_record(handle, ViewRecord::new(window));
     let refusal = create_view_refusal(registry, window);
-    crate::answer::created_with(
-        handle,
-        registry.settle(refusal, registry.with_views(changed)),
+    let made = allocate(registry.views.arena, registry.first_generation);
+    let views = registry
+        .views
+        .with_arena(made.arena)
+        .with_record(made.handle, ViewRecord::new(window));
+    Answered::with(
+        made.handle,
+        registry.settle(refusal, registry.with_views(views)),
     )
 }
 
 fn has_layers(views: ViewTable, view: GenerationalHandle) -> bool
     ensures { result ≡ has_layers views view }
 {
-    let record = views.record(view);
-    record.surfaces.count() != 0
+    views.record(view).surfaces.count() != 0
 }
 
 fn close_view_refusal(registry: CompositionRegistry, view: GenerationalHandle) -> Outcome
     ensures { result ≡ close_view_refusal registry view }
 {
-    let freed = handles::arena::release(registry.views.arena, view);
-    let outcome = freed.outcome;
-    let exhausted = crate::answer::refuse_exhausted(outcome);
-    let in_use = records::error::refuse_if(
+    registry.damage()?;
+    registry.views.refusal(view)?;
+    refuse_if(
         has_layers(registry.views, view),
         CompositionError::ViewInUse,
-    );
-    let live = registry.views.refusal(view);
-    registry.damage().then(live.then(in_use.then(exhausted)))
+    )?;
+    refuse_exhausted(release(registry.views.arena, view).outcome)
 }
 
 // A view without panels ends.
+#[tactic(auto, unfolding(crate::specs::Windows::close_view))]
 pub fn close_view(registry: CompositionRegistry, view: GenerationalHandle) -> Changed
     ensures { result ≡ close_view registry view }
 {
-    let freed = handles::arena::release(registry.views.arena, view);
     let refusal = close_view_refusal(registry, view);
+    let arena = release(registry.views.arena, view).arena;
     registry.settle(
         refusal,
-        registry.with_views(registry.views.with_arena(freed.arena)),
+        registry.with_views(registry.views.with_arena(arena)),
     )
 }

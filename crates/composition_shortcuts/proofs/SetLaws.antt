@@ -1,4 +1,6 @@
 -- Which numbers the set call answers and what it stores, by the checks that pass and the first that refuses.
+use Rattle.std.specs.Prelude.{Ok, Err}
+use Rattle.std.specs.Result.{result_and}
 use Prim.Native.Nat.{ℕ, ◌≤◌}
 use mathlib.Core.Path.{◌≡◌, refl, ap, ◌∙◌}
 use mathlib.Core.Bool.{Bool, true, false, not, ◌&&◌}
@@ -7,7 +9,8 @@ use native.Mathlib.Omega.{arith}
 use borrow.Author.Tests.{eq-eqb, ne_eqb, leb-true, le-leb}
 use lib.Dec.{eqb, ltb, leb}
 use lib.ListN.{length, length-take}
-use Rattle.lists.specs.Lists.{keep, all}
+use Rattle.std.specs.List.{list_all as all}
+use Rattle.lists.specs.Lists.{keep}
 use Rattle.lists.specs.Tables.{entries_of, packed}
 use Rattle.lists.specs.Numbers.{max_u64}
 use Rattle.lists.proofs.ListLaws.{by_test, clash, and_left, and_right, length_keep}
@@ -17,18 +20,16 @@ use Rattle.handles.specs.declared.arena.SlotStatus.TheVariants.{Live, Invalid, S
 use Rattle.handles.specs.declared.GenerationalHandle.{GenerationalHandle}
 use Rattle.records.specs.declared.error.CompositionError.{CompositionError}
 use Rattle.records.specs.declared.error.CompositionError.TheVariants.{InvalidSurface, StaleSurface, Capacity, NotInteractive, RevisionConflict, PortLimit, Damaged}
-use Rattle.records.specs.declared.error.Outcome.{Outcome}
-use Rattle.records.specs.declared.error.Outcome.TheVariants.{Accepted, Refused}
 use Rattle.composition_state.specs.declared.registry.CompositionRegistry.{CompositionRegistry}
 use Rattle.records.specs.declared.shortcut.SurfaceShortcutRegistration.{SurfaceShortcutRegistration}
 use Rattle.records.specs.declared.surface.SurfaceInputPolicy.TheVariants.{Observe}
 use Rattle.composition_state.specs.Damage.{damage_refusal, is_sound, limits_sound, arenas_sound}
-use Rattle.records.specs.Errors.{error_number, number_of, then_refusal, refusal_if, status_refusal}
+use Rattle.records.specs.Errors.{error_number, number_of, refusal_if, status_refusal, Outcome}
 use Rattle.composition_state.specs.Registry.{with_shortcuts, conflict_refusal, advanced, settled}
 use Rattle.records.specs.Shortcuts.{shortcuts, is_of_other_slot}
 use Rattle.records.specs.Surfaces.{surface_status, descriptor_of, surface_refusal}
-use Rattle.composition_state.proofs.SettleLaws.{accepted_is}
-use Rattle.composition_shortcuts.specs.declared.register.Registrations.{Registrations}
+use Rattle.composition_state.proofs.SettleLaws.{accepted_is, then_last, settled_accepted}
+use Rattle.composition_shortcuts.specs.Registrations.{Registrations}
 use Rattle.composition_shortcuts.specs.Register.{registrations, is_fit, replaced_entries, fits, replaced, register_refusal, register_surface_system_shortcut_set}
 use Rattle.composition_shortcuts.specs.Claims.{Observing, set_number}
 
@@ -43,9 +44,9 @@ module _ (n : ℕ) where
   status_not Invalid i e z f g h = clash (eq-eqb _ _ h) f
   status_not Stale i e z f g h = clash (eq-eqb _ _ h) g
 
-  then_not : (a b : Outcome) → (number_of a ≡ n → ⊥) → (number_of b ≡ n → ⊥) → number_of (then_refusal a b) ≡ n → ⊥
-  then_not Accepted b f g h = g h
-  then_not (Refused e) b f g h = f h
+  then_not : (a b : Outcome) → (number_of a ≡ n → ⊥) → (number_of b ≡ n → ⊥) → number_of (result_and a b) ≡ n → ⊥
+  then_not (Ok _) b f g h = g h
+  then_not (Err e) b f g h = f h
 
 last_not : (c : CompositionRegistry) → number_of (advanced c).outcome ≡ 18 → ⊥
 unfolding advanced
@@ -54,24 +55,13 @@ last_not c h = by_test (eqb c.revision max_u64)
     (λ t. let k : 0 ≡ 18 = simp t at h in omega arith)
 
 settled_not : (o : Outcome) (r c : CompositionRegistry) → (number_of o ≡ 18 → ⊥) → number_of (settled o r c).outcome ≡ 18 → ⊥
-settled_not Accepted r c f h = last_not c h
-settled_not (Refused e) r c f h = f h
+settled_not (Ok _) r c f h = last_not c h
+settled_not (Err e) r c f h = f h
 
 -- ---- what an accepted answer says of the checks
-refused≢accepted {ℓ} : {P : Type ℓ} {e : CompositionError} → Refused e ≡ Accepted → P
-refused≢accepted {P} {e} q = let z : ◌≡◌ {A = ℕ} 0 1 = cc in absurd (omega arith)
-
-then_accepted : (a b : Outcome) → then_refusal a b ≡ Accepted → b ≡ Accepted
-then_accepted Accepted b h = h
-then_accepted (Refused e) b h = refused≢accepted h
-
-settled_accepted : (o : Outcome) (r c : CompositionRegistry) → (settled o r c).outcome ≡ Accepted → o ≡ Accepted
-settled_accepted Accepted r c h = refl
-settled_accepted (Refused e) r c h = refused≢accepted h
-
-unrefused : (b : Bool) (e : CompositionError) → refusal_if (not b) e ≡ Accepted → b ≡ true
+unrefused : (b : Bool) (e : CompositionError) → refusal_if (not b) e ≡ Ok tt → b ≡ true
 unrefused true e h = refl
-unrefused false e h = refused≢accepted h
+unrefused false e h = cc
 
 -- ---- the set call
 no_entries : (t : Registrations) → t.len ≡ 0 → entries_of registrations t ≡ []
@@ -108,12 +98,12 @@ module _ (r : CompositionRegistry) (h : GenerationalHandle) (t : Registrations) 
       (then_not 18 unfit _ (empty_fit e)
       (if_not 18 (not (fits h.index t r.shortcuts)) PortLimit refl refl))))))
 
-  has_room : register_refusal r h t n ≡ Accepted → fits h.index t r.shortcuts ≡ true
+  has_room : register_refusal r h t n ≡ Ok tt → fits h.index t r.shortcuts ≡ true
   has_room a =
       unrefused (fits h.index t r.shortcuts) PortLimit
-      (then_accepted unfit _ (then_accepted long _ (then_accepted live _ (then_accepted conflict _ (then_accepted (damage_refusal r) _ a)))))
+      (then_last unfit _ (then_last long _ (then_last live _ (then_last conflict _ (then_last (damage_refusal r) _ a)))))
 
-  pub stores : (register_surface_system_shortcut_set r h t n).outcome ≡ Accepted
+  pub stores : (register_surface_system_shortcut_set r h t n).outcome ≡ Ok tt
       → entries_of shortcuts (register_surface_system_shortcut_set r h t n).registry.shortcuts ≡ replaced_entries h.index t r.shortcuts
   unfolding register_surface_system_shortcut_set
   stores a =
@@ -126,8 +116,8 @@ module _ (r : CompositionRegistry) (h : GenerationalHandle) (o : Observing r h) 
   -- the checks that are left
   abbrev later : Registrations → Outcome
   later t =
-      then_refusal (refusal_if (ltb 64 t.len) Capacity)
-      (then_refusal (refusal_if (not (all (is_fit Observe) (entries_of registrations t))) NotInteractive)
+      result_and (refusal_if (ltb 64 t.len) Capacity)
+      (result_and (refusal_if (not (all (is_fit Observe) (entries_of registrations t))) NotInteractive)
       (refusal_if (not (fits h.index t r.shortcuts)) PortLimit))
 
   passed : (t : Registrations) → register_refusal r h t r.revision ≡ later t
@@ -138,14 +128,14 @@ module _ (r : CompositionRegistry) (h : GenerationalHandle) (o : Observing r h) 
   number_is t x e = ap (λ (y : Outcome). number_of (settled y r (changed r h t r.revision)).outcome) (passed t ∙ e)
 
   pub many_is : (t : Registrations) → t.len ≡ 65 → set_number r h t ≡ 3
-  many_is t e = number_is t (Refused Capacity) (rw e)
+  many_is t e = number_is t (Err Capacity) (rw e)
 
   no_policy : (b : Bool) → (b && false) ≡ false
   no_policy true = refl
   no_policy false = refl
 
   pub one_is : (g : SurfaceShortcutRegistration) → set_number r h (packed registrations (g ∷ [])) ≡ 18
-  one_is g = number_is (packed registrations (g ∷ [])) (Refused NotInteractive) (rw (entries_packed registrations (g ∷ []), len_packed registrations (g ∷ []), no_policy (not (eqb g.class_mask 0))))
+  one_is g = number_is (packed registrations (g ∷ [])) (Err NotInteractive) (rw (entries_packed registrations (g ∷ []), len_packed registrations (g ∷ []), no_policy (not (eqb g.class_mask 0))))
 
   few : length (entries_of shortcuts r.shortcuts) ≤ 256
   unfolding is_sound entries_of
@@ -155,7 +145,7 @@ module _ (r : CompositionRegistry) (h : GenerationalHandle) (o : Observing r h) 
       let k : r.shortcuts.len ≤ 256 = leb-true r.shortcuts.len 256 (and_left (leb r.shortcuts.len 256) _ b) in
       simp length-take (omega arith)
 
-  none_left : later (packed registrations []) ≡ Accepted
+  none_left : later (packed registrations []) ≡ Ok tt
   none_left = rw (entries_packed registrations [], len_packed registrations [], append-nil, le-leb _ _ room)
     where
       room : length (keep (is_of_other_slot h.index) (entries_of shortcuts r.shortcuts)) ≤ 256
@@ -163,4 +153,4 @@ module _ (r : CompositionRegistry) (h : GenerationalHandle) (o : Observing r h) 
 
   pub none_is : (r.revision ≡ max_u64 → ⊥) → set_number r h (packed registrations []) ≡ 0
   unfolding advanced
-  none_is n = number_is (packed registrations []) Accepted none_left ∙ rw (ne_eqb _ _ n)
+  none_is n = number_is (packed registrations []) (Ok tt) none_left ∙ rw (ne_eqb _ _ n)

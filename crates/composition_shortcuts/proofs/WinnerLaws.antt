@@ -1,30 +1,27 @@
 -- What the answer of a system shortcut names: the greatest of those that count, and none exactly if none counts.
+use Rattle.records.specs.Errors.{Outcome}
+use Rattle.std.specs.Prelude.{Option, None, Some, Ok, Err}
+use Rattle.std.specs.Result.{result_and}
 use Prim.Native.Nat.{ℕ}
 use mathlib.Core.Path.{◌≡◌, refl, sym, ap, ◌∙◌}
 use mathlib.Core.Bool.{Bool, true, false}
 use mathlib.Core.Logic.{⊎_elim}
 use mathlib.Core.List.{List, [], ◌∷◌, map, Memᴰ}
-use mathlib.Core.Option.{Option}
-use native.Mathlib.Omega.{arith}
 use Rattle.lists.specs.Lists.{keep}
-use Rattle.lists.proofs.ListLaws.{by_test, clash}
+use Rattle.lists.proofs.ListLaws.{by_test, clash, some≢none}
 use Rattle.handles.specs.declared.GenerationalHandle.{GenerationalHandle}
-use Rattle.handles.specs.declared.OptionalHandle.{OptionalHandle}
-use Rattle.handles.specs.declared.OptionalHandle.TheVariants as O
-use Rattle.records.specs.declared.error.Outcome.{Outcome}
-use Rattle.records.specs.declared.error.Outcome.TheVariants.{Accepted, Refused}
 use Rattle.records.specs.declared.shortcut.SlotShortcut.{SlotShortcut}
-use Rattle.records.specs.declared.surface.SurfaceTable.{SurfaceTable}
-use Rattle.records.specs.declared.view.ViewTable.{ViewTable}
+use Rattle.records.specs.Surfaces.{SurfaceTable}
+use Rattle.records.specs.Views.{ViewTable}
 use Rattle.composition_shortcuts.specs.declared.candidate.Candidate.{Candidate}
 use Rattle.composition_shortcuts.specs.Greatest.{greatest}
 use Rattle.composition_shortcuts.specs.Scope.{owner_of, counts}
-use Rattle.composition_shortcuts.specs.Candidates.{candidate_of, is_less, optional}
+use Rattle.composition_shortcuts.specs.Candidates.{candidate_of, is_less}
 use Rattle.composition_shortcuts.specs.OwnView.{own_view_refusal}
-use Rattle.composition_shortcuts.specs.Resolve.{candidates, winner_of, winner, resolved_with}
+use Rattle.composition_shortcuts.specs.Resolve.{Resolved, candidates, winner_of, winner}
 use Rattle.composition_shortcuts.specs.Claims.{Counts, Wins}
 use Rattle.composition_shortcuts.proofs.GreatestLaws.{greatest_none, greatest_among, greatest_top}
-use Rattle.composition_shortcuts.proofs.CandidateLaws.{order, same_candidate, by_option}
+use Rattle.composition_shortcuts.proofs.CandidateLaws.{order, same_candidate}
 
 -- ---- an element of what is kept and mapped
 module _ {E F : Type 0} (p : E → Bool) (f : E → F) where
@@ -45,27 +42,18 @@ module _ {E F : Type 0} (p : E → Bool) (f : E → F) where
       (λ u. let r = kept_from l y (rw u at m) in (r.0, mathlib.Core.List.Memᴰ.tail r.1, r.2, r.3))
 
 -- ---- the winner
-some≢none {ℓ} : {P : Type ℓ} {h : GenerationalHandle} → O.Some h ≡ O.None → P
-some≢none {P} {h} q = let z : ◌≡◌ {A = ℕ} 0 1 = cc in absurd (omega arith)
-
-same_handle_lem : {a b : GenerationalHandle} → O.Some a ≡ O.Some b → a ≡ b
+same_handle_lem : {a b : GenerationalHandle} → Some a ≡ Some b → a ≡ b
 same_handle_lem {a} {b} q = cc
 
--- what a refused answer names, and an accepted one
-pub resolved_some : (o : Outcome) (w : OptionalHandle) (h : GenerationalHandle) → (resolved_with o w).surface ≡ O.Some h → w ≡ O.Some h
-resolved_some Accepted w h e = e
-resolved_some (Refused x) w h e = some≢none (sym e)
+-- what an accepted answer names
+pub resolved_is : (o : Outcome) (w v : Option GenerationalHandle) → ◌≡◌ {A = Resolved} (result_and o (Ok w)) (Ok v) → w ≡ v
+resolved_is (Ok _) w v e = cc
+resolved_is (Err x) w v e = cc
 
-pub resolved_none : (o : Outcome) (w : OptionalHandle) → (resolved_with o w).outcome ≡ Accepted → (resolved_with o w).surface ≡ O.None → w ≡ O.None
-resolved_none Accepted w a e = e
-resolved_none (Refused x) w a e = let z : ◌≡◌ {A = ℕ} 0 1 = cc in absurd (omega arith)
-
-pub none_resolved : (o : Outcome) (w : OptionalHandle) → w ≡ O.None → (resolved_with o w).surface ≡ O.None
-none_resolved Accepted w e = e
-none_resolved (Refused x) w e = refl
-
-abbrev named : Option Candidate → OptionalHandle
-named g = winner_of (optional g)
+-- an option by its cases, with the case at hand
+by_option : {P : Type 0} (g : Option Candidate) → (g ≡ None → P) → ((b : Candidate) → g ≡ Some b → P) → P
+by_option None f s = f refl
+by_option (Some b) f s = s b refl
 
 module _ (views : ViewTable) (surfaces : SurfaceTable) (view : GenerationalHandle) (mask : ℕ) (l : List SlotShortcut) where
   abbrev counted : SlotShortcut → Bool
@@ -84,11 +72,11 @@ module _ (views : ViewTable) (surfaces : SurfaceTable) (view : GenerationalHandl
   unfolding candidate_of
   panel_is s = refl
 
-  pub wins : (h : GenerationalHandle) → winner views surfaces view mask l ≡ O.Some h → Wins views surfaces view mask l h
+  pub wins : (h : GenerationalHandle) → winner views surfaces view mask l ≡ Some h → Wins views surfaces view mask l h
   wins h e = by_option (greatest is_less listed)
-      (λ g. some≢none (sym e ∙ ap named g))
+      (λ g. some≢none e (ap winner_of g))
       (λ b g.
-      let is : b.surface ≡ h = same_handle_lem (sym (ap named g) ∙ e) in
+      let is : b.surface ≡ h = same_handle_lem (sym (ap winner_of g) ∙ e) in
       let k = kept_from counted compared l b (greatest_among order listed b g) in
       record {
         registration = k.0;
@@ -97,14 +85,14 @@ module _ (views : ViewTable) (surfaces : SurfaceTable) (view : GenerationalHandl
         unbeaten = λ s c. rw (sym k.3) (greatest_top order listed b g (compared s) (kept_in counted compared l s c.stored c.counted));
       })
 
-  pub none_counts : winner views surfaces view mask l ≡ O.None → (s : SlotShortcut) → Counts views surfaces view mask l s → ⊥
+  pub none_counts : winner views surfaces view mask l ≡ None → (s : SlotShortcut) → Counts views surfaces view mask l s → ⊥
   none_counts e s c = by_option (greatest is_less listed)
       (λ g. mathlib.Core.List.Memᴰ.not-nil (rw (greatest_none order listed g) at (kept_in counted compared l s c.stored c.counted)))
-      (λ b g. some≢none (sym (ap named g) ∙ e))
+      (λ b g. some≢none (ap winner_of g) e)
 
-  pub none_wins : ((s : SlotShortcut) → Counts views surfaces view mask l s → ⊥) → winner views surfaces view mask l ≡ O.None
+  pub none_wins : ((s : SlotShortcut) → Counts views surfaces view mask l s → ⊥) → winner views surfaces view mask l ≡ None
   none_wins f = by_option (greatest is_less listed)
-      (λ g. ap named g)
+      (λ g. ap winner_of g)
       (λ b g. let k = kept_from counted compared l b (greatest_among order listed b g) in absurd (f k.0 (record { stored = k.1; counted = k.2 })))
 
 pub one_winner : (a b : Candidate) → is_less a b ≡ false → is_less b a ≡ false → a.surface ≡ b.surface

@@ -1,24 +1,21 @@
 -- What holds of these calls beyond their equations.
-use Rattle.std.specs.Prelude.{ℕ, ◌<◌, ◌/◌, ◌%◌, ◌^◌, ◌≡◌, true, false}
+use Rattle.std.specs.Prelude.{ℕ, ◌<◌, ◌/◌, ◌%◌, ◌^◌, ◌≡◌, true, false, None, Some, Ok}
 use mathlib.Core.List.{List, [], ◌∷◌, Memᴰ}
 use Rattle.lists.specs.Tables.{entries_of, packed}
 use Rattle.lists.specs.Numbers.{max_u64}
 use Rattle.handles.specs.declared.arena.SlotStatus.TheVariants.{Live}
 use Rattle.handles.specs.declared.GenerationalHandle.{GenerationalHandle}
-use Rattle.handles.specs.declared.OptionalHandle.TheVariants.{None, Some}
-use Rattle.records.specs.declared.error.Outcome.TheVariants.{Accepted}
 use Rattle.composition_state.specs.declared.registry.CompositionRegistry.{CompositionRegistry}
 use Rattle.records.specs.declared.shortcut.SlotShortcut.{SlotShortcut}
 use Rattle.records.specs.declared.shortcut.SurfaceShortcutRegistration.{SurfaceShortcutRegistration}
 use Rattle.records.specs.declared.surface.SurfaceInputPolicy.TheVariants.{Observe}
-use Rattle.records.specs.declared.surface.SurfaceTable.{SurfaceTable}
-use Rattle.records.specs.declared.view.ViewTable.{ViewTable}
+use Rattle.records.specs.Surfaces.{SurfaceTable, surface_status, descriptor_of}
+use Rattle.records.specs.Views.{ViewTable}
 use Rattle.composition_state.specs.Damage.{is_sound}
 use Rattle.records.specs.Errors.{number_of}
 use Rattle.composition_state.specs.Settles.{Settles}
 use Rattle.records.specs.Shortcuts.{shortcuts}
-use Rattle.records.specs.Surfaces.{surface_status, descriptor_of}
-use Rattle.composition_shortcuts.specs.declared.register.Registrations.{Registrations}
+use Rattle.composition_shortcuts.specs.Registrations.{Registrations}
 use Rattle.composition_shortcuts.specs.declared.candidate.Candidate.{Candidate}
 use Rattle.composition_shortcuts.specs.Register.{registrations, replaced_entries, register_surface_system_shortcut_set}
 use Rattle.composition_shortcuts.specs.Scope.{shares_bit, owner_of, counts}
@@ -60,17 +57,16 @@ pub record ShortcutClaims : Type 0 where
   -- the greatest of those that count wins, of any list of registrations
   pub winner_wins : (views : ViewTable) (surfaces : SurfaceTable) (view : GenerationalHandle) (mask : ℕ)
       (l : List SlotShortcut) (h : GenerationalHandle)
-      → (resolve_system_shortcut views surfaces view mask l).surface ≡ Some h → Wins views surfaces view mask l h
+      → resolve_system_shortcut views surfaces view mask l ≡ Ok (Some h) → Wins views surfaces view mask l h
   -- RULES.md, System shortcut: none is answered exactly if none counts
   pub none_counts : (views : ViewTable) (surfaces : SurfaceTable) (view : GenerationalHandle) (mask : ℕ)
       (l : List SlotShortcut)
-      → (resolve_system_shortcut views surfaces view mask l).outcome ≡ Accepted
-      → (resolve_system_shortcut views surfaces view mask l).surface ≡ None
+      → resolve_system_shortcut views surfaces view mask l ≡ Ok None
       → (s : SlotShortcut) → Counts views surfaces view mask l s → ⊥
   pub none_wins : (views : ViewTable) (surfaces : SurfaceTable) (view : GenerationalHandle) (mask : ℕ)
       (l : List SlotShortcut)
       → ((s : SlotShortcut) → Counts views surfaces view mask l s → ⊥)
-      → (resolve_system_shortcut views surfaces view mask l).surface ≡ None
+      → (h : GenerationalHandle) → resolve_system_shortcut views surfaces view mask l ≡ Ok (Some h) → ⊥
   -- there is one winner: candidates of which neither is less are of one panel
   pub one_winner : (a b : Candidate) → is_less a b ≡ false → is_less b a ≡ false → a.surface ≡ b.surface
   -- a 64-bit and is not 0 exactly if some bit stands in both
@@ -82,7 +78,7 @@ pub record ShortcutClaims : Type 0 where
       (register_surface_system_shortcut_set r h t n).registry
   -- an accepted set call leaves the registrations of the other slots, then the list, in their order
   pub set_stores : (r : CompositionRegistry) (h : GenerationalHandle) (t : Registrations) (n : ℕ)
-      → (register_surface_system_shortcut_set r h t n).outcome ≡ Accepted
+      → (register_surface_system_shortcut_set r h t n).outcome ≡ Ok tt
       → entries_of shortcuts (register_surface_system_shortcut_set r h t n).registry.shortcuts
       ≡ replaced_entries h.index t r.shortcuts
   -- an empty list is never refused 18, whatever the policy

@@ -1,6 +1,5 @@
 -- The greatest of a list, under an order by a test.
-use Rattle.std.specs.Prelude.{Bool, not, List}
-use Rattle.std.proofs.Math.Option.{Option}
+use Rattle.std.specs.Prelude.{Bool, not, List, Option}
 use Rattle.lists.specs.Lists.{first, all}
 
 module _ {E : Type 0} (lt : E → E → Bool) where

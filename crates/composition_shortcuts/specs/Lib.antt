@@ -1,3 +1,4 @@
+pub mod Registrations
 pub mod Register
 pub mod Greatest
 pub mod Scope

@@ -9,10 +9,8 @@ use Rattle.records.specs.declared.shortcut.ShortcutScope.{ShortcutScope}
 use Rattle.records.specs.declared.shortcut.ShortcutScope.TheVariants.{View, Window, Session}
 use Rattle.records.specs.declared.shortcut.SlotShortcut.{SlotShortcut}
 use Rattle.records.specs.declared.surface.SurfaceDescriptor.{SurfaceDescriptor}
-use Rattle.records.specs.declared.surface.SurfaceTable.{SurfaceTable}
-use Rattle.records.specs.declared.view.ViewTable.{ViewTable}
-use Rattle.records.specs.Surfaces.{descriptor_of}
-use Rattle.records.specs.Views.{view_at}
+use Rattle.records.specs.Surfaces.{SurfaceTable, descriptor_of}
+use Rattle.records.specs.Views.{ViewTable, view_at}
 
 -- "shares at least one class bit with the event": the class masks meet under a 64-bit and
 unfoldable pub shares_bit : ℕ → ℕ → Bool

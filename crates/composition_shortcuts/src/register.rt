@@ -1,63 +1,30 @@
 // The calls that replace a panel's registrations of system shortcuts.
-ghost use Rattle.std.specs.Prelude.{◌≡◌, [], ◌∷◌, ◌++◌, map, ◌+◌, ◌≤◌, ◌<◌, length};
-ghost use Rattle.lists.specs.Lists.{all};
-ghost use Rattle.lists.specs.Tables.{entries_of, packed, pushed};
+ghost use Rattle.std.specs.Prelude.{◌≡◌, map};
+ghost use Rattle.std.specs.List.{fold, list_all as all};
+ghost use Rattle.lists.specs.Tables.{entries_of, pushed_within};
 ghost use Rattle.records.specs.Shortcuts.{shortcuts as stored};
-ghost use Rattle.composition_shortcuts.specs.Register.{registrations as given, is_fit, with_slot, fits, replaced, register_refusal, register_surface_system_shortcut_set, registration_list, of_mask};
+ghost use Rattle.composition_shortcuts.specs.Register.{registrations as given, is_fit, with_slot, fits, registration_of, replaced, register_refusal, register_surface_system_shortcut_set, registration_list, of_mask};
 
 use composition_state::registry::{Changed, CompositionRegistry, expect_revision};
 use handles::GenerationalHandle;
+use lists::table::Table;
 use records::error::{CompositionError, Outcome, refuse_if};
-use records::shortcut::{ShortcutScope, Shortcuts, SlotShortcut, SurfaceShortcutRegistration};
+use records::shortcut::{
+    ShortcutScope, Shortcuts, SlotShortcut, SurfaceShortcutRegistration, shortcuts_without,
+};
 use records::surface::{SurfaceInputPolicy, is_interactive};
 
 // The registrations handed in. A `len` over 64 stands for a list that is too long.
-#[derive(Clone, Copy)]
-pub struct Registrations {
-    pub items: [SurfaceShortcutRegistration; 64],
-    pub len: usize,
-}
+pub type Registrations = Table<SurfaceShortcutRegistration, 64>;
 
-#[derive(Clone, Copy)]
-pub enum OptionalRegistration {
-    None,
-    Some(SurfaceShortcutRegistration),
-}
-
-impl Registrations {
-    fn new() -> Self
-        ensures { result ≡ packed given [] }
-    {
-        let blank = SurfaceShortcutRegistration {
-            class_mask: 0,
-            scope: ShortcutScope::View,
-            priority: 0,
-        };
-        Self {
-            items: [blank; 64],
-            len: 0,
-        }
-    }
-
-    // The list of one registration.
-    fn of(registration: SurfaceShortcutRegistration) -> Self
-        ensures { result ≡ packed given (registration ∷ []) }
-    {
-        let mut one = Registrations::new();
-        one.items[0] = registration;
-        one.len = 1;
-        one
-    }
-
-    // How many registrations the list has: all places, where its count is past them.
-    fn count(self) -> usize
-        ensures { result ≡ length (entries_of given self) }
-    {
-        let n = self.len;
-        if n < 64 {
-            return n;
-        }
-        64
+// What a plain mask registers.
+fn registration_of(class_mask: u64) -> SurfaceShortcutRegistration
+    ensures { result ≡ registration_of class_mask }
+{
+    SurfaceShortcutRegistration {
+        class_mask,
+        scope: ShortcutScope::View,
+        priority: 0,
     }
 }
 
@@ -65,57 +32,39 @@ impl Registrations {
 fn is_fit(input: SurfaceInputPolicy, registration: SurfaceShortcutRegistration) -> bool
     ensures { result ≡ is_fit input registration }
 {
-    lists::both(registration.class_mask != 0, is_interactive(input))
+    registration.class_mask != 0 && is_interactive(input)
 }
 
 fn are_fit(input: SurfaceInputPolicy, registrations: Registrations) -> bool
     ensures { result ≡ all (is_fit input) (entries_of given registrations) }
 {
-    let n = registrations.count();
-    let mut ok = true;
-    let mut i = 0;
-    while i < n {
-        let registration = registrations.items[i];
-        ok = lists::both(ok, is_fit(input, registration));
-        i += 1;
-    }
-    ok
+    registrations
+        .entries()
+        .iter()
+        .all(|registration| is_fit(input, *registration))
 }
 
 // Whether the table holds the list beside the registrations of all other slots.
 fn has_room(shortcuts: Shortcuts, slot: u32, registrations: Registrations) -> bool
     ensures { result ≡ fits slot registrations shortcuts }
 {
-    let others = shortcuts.without(slot);
-    others.count() + registrations.count() <= 256
+    shortcuts_without(shortcuts, slot).count() + registrations.count() <= 256
 }
 
-fn push(shortcuts: Shortcuts, entry: SlotShortcut) -> Shortcuts
-    requires { shortcuts.len < 256 }
-    ensures { result ≡ pushed stored shortcuts entry }
-{
-    let at = shortcuts.len;
-    let mut next = shortcuts;
-    next.entries[at] = entry;
-    next.len = at + 1;
-    next
-}
-
-// The table with the list put after its own entries, each with the slot.
-fn extend(shortcuts: Shortcuts, slot: u32, registrations: Registrations) -> Shortcuts
-    requires shortcuts_value { shortcuts ≡ packed stored (entries_of stored shortcuts) }
-    requires registrations_len_bound { length (entries_of stored shortcuts)
-        + length (entries_of given registrations) ≤ 256 }
-    ensures { result ≡ packed stored
-        (entries_of stored shortcuts ++ map (with_slot slot) (entries_of given registrations)) }
+// The table with a list put after its own entries, each with the slot.
+fn with_each(
+    shortcuts: Shortcuts,
+    slot: u32,
+    registrations: &[SurfaceShortcutRegistration],
+) -> Shortcuts
+    ensures { result ≡ fold (pushed_within stored) shortcuts (map (with_slot slot) registrations.now) }
 {
     let mut next = shortcuts;
-    let n = registrations.count();
-    let mut i = 0;
-    while i < n {
-        let registration = registrations.items[i];
-        next = push(next, SlotShortcut { slot, registration });
-        i += 1;
+    for registration in registrations {
+        next.push_in_place(SlotShortcut {
+            slot,
+            registration: *registration,
+        });
     }
     next
 }
@@ -124,10 +73,14 @@ fn extend(shortcuts: Shortcuts, slot: u32, registrations: Registrations) -> Shor
 fn replace(shortcuts: Shortcuts, slot: u32, registrations: Registrations) -> Shortcuts
     ensures { result ≡ replaced slot registrations shortcuts }
 {
-    if has_room(shortcuts, slot, registrations) {
-        return extend(shortcuts.without(slot), slot, registrations);
+    if !has_room(shortcuts, slot, registrations) {
+        return shortcuts;
     }
-    shortcuts
+    with_each(
+        shortcuts_without(shortcuts, slot),
+        slot,
+        registrations.entries(),
+    )
 }
 
 fn register_refusal(
@@ -138,21 +91,23 @@ fn register_refusal(
 ) -> Outcome
     ensures { result ≡ register_refusal registry surface registrations expected }
 {
-    let descriptor = registry.surfaces.descriptor(surface);
-    let input = descriptor.input;
-    let room = has_room(registry.shortcuts, surface.index, registrations);
-    let full = refuse_if(!room, CompositionError::PortLimit);
-    let fit = are_fit(input, registrations);
-    let unfit = refuse_if(!fit, CompositionError::NotInteractive);
-    let long = refuse_if(registrations.len > 64, CompositionError::Capacity);
-    let live = registry.surfaces.refusal(surface);
-    let conflict = expect_revision(registry.revision, expected);
-    registry
-        .damage()
-        .then(conflict.then(live.then(long.then(unfit.then(full)))))
+    registry.damage()?;
+    expect_revision(registry.revision, expected)?;
+    registry.surfaces.refusal(surface)?;
+    refuse_if(registrations.len > 64, CompositionError::Capacity)?;
+    let input = registry.surfaces.descriptor(surface).input;
+    refuse_if(
+        !are_fit(input, registrations),
+        CompositionError::NotInteractive,
+    )?;
+    refuse_if(
+        !has_room(registry.shortcuts, surface.index, registrations),
+        CompositionError::PortLimit,
+    )
 }
 
 // A panel registers a list of system shortcuts in place of those that it had.
+#[tactic(auto, unfolding(crate::specs::Register::register_surface_system_shortcut_set))]
 pub fn register_surface_system_shortcut_set(
     registry: CompositionRegistry,
     surface: GenerationalHandle,
@@ -161,18 +116,19 @@ pub fn register_surface_system_shortcut_set(
 ) -> Changed
     ensures { result ≡ register_surface_system_shortcut_set registry surface registrations expected_revision }
 {
-    let changed = replace(registry.shortcuts, surface.index, registrations);
     let refusal = register_refusal(registry, surface, registrations, expected_revision);
-    registry.settle(refusal, registry.with_shortcuts(changed))
+    let shortcuts = replace(registry.shortcuts, surface.index, registrations);
+    registry.settle(refusal, registry.with_shortcuts(shortcuts))
 }
 
 // The list of an optional registration.
-fn list_of(registration: OptionalRegistration) -> Registrations
+#[tactic(auto, unfolding(lists::specs::Tables::packed, lists::specs::Tables::pushed, lists::specs::Tables::pushed_within))]
+fn list_of(registration: Option<SurfaceShortcutRegistration>) -> Registrations
     ensures { result ≡ registration_list registration }
 {
     match registration {
-        OptionalRegistration::None => Registrations::new(),
-        OptionalRegistration::Some(one) => Registrations::of(one),
+        None => Registrations::new(),
+        Some(one) => Registrations::new().push_within(one),
     }
 }
 
@@ -180,7 +136,7 @@ fn list_of(registration: OptionalRegistration) -> Registrations
 pub fn register_surface_system_shortcuts(
     registry: CompositionRegistry,
     surface: GenerationalHandle,
-    registration: OptionalRegistration,
+    registration: Option<SurfaceShortcutRegistration>,
     expected_revision: u64,
 ) -> Changed
     ensures { result ≡ register_surface_system_shortcut_set registry surface (registration_list registration)
@@ -195,17 +151,14 @@ pub fn register_surface_system_shortcuts(
 }
 
 // What a plain mask registers: nothing where it is 0.
-fn of_mask(class_mask: u64) -> OptionalRegistration
+fn of_mask(class_mask: u64) -> Option<SurfaceShortcutRegistration>
     ensures { result ≡ of_mask class_mask }
 {
     if class_mask == 0 {
-        return OptionalRegistration::None;
+        None
+    } else {
+        Some(registration_of(class_mask))
     }
-    OptionalRegistration::Some(SurfaceShortcutRegistration {
-        class_mask,
-        scope: ShortcutScope::View,
-        priority: 0,
-    })
 }
 
 // A panel registers a class mask for its own view at priority 0, or nothing where the mask is 0.

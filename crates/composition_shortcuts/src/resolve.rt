@@ -3,33 +3,29 @@ ghost use Rattle.std.specs.Prelude.{◌≡◌, List, [], ◌∷◌, ◌++◌};
 ghost use Rattle.lists.specs.Tables.{entries_of};
 ghost use Rattle.records.specs.declared.shortcut.SlotShortcut.{SlotShortcut};
 ghost use Rattle.records.specs.Shortcuts.{shortcuts as stored};
-ghost use Rattle.composition_shortcuts.specs.Resolve.{best_among, winner_of, resolved_with, resolve_system_shortcut};
+ghost use Rattle.composition_shortcuts.specs.Resolve.{best_among, resolve_system_shortcut};
 
-use crate::candidate::{OptionalCandidate, candidate_of, greater_of};
+use crate::candidate::{Candidate, candidate_of, greater_of};
 use crate::own_view::own_view_refusal;
 use crate::scope::{is_counted, shares_bit};
-use handles::{GenerationalHandle, OptionalHandle};
-use records::error::Outcome;
+use handles::GenerationalHandle;
+use records::error::CompositionError;
 use records::shortcut::{Shortcuts, SlotShortcut};
 use records::surface::SurfaceTable;
 use records::view::ViewTable;
 
-// The answer: the panel that the event goes to stands if it is accepted.
-#[derive(Clone, Copy)]
-pub struct Resolved {
-    pub outcome: Outcome,
-    pub surface: OptionalHandle,
-}
+// The panel that the event goes to, or none, if it is not refused.
+pub type Resolved = Result<Option<GenerationalHandle>, CompositionError>;
 
 // The greatest that counts of some registrations, with one registration more.
 fn consider(
-    best: OptionalCandidate,
+    best: Option<Candidate>,
     views: ViewTable,
     surfaces: SurfaceTable,
     view: GenerationalHandle,
     class_mask: u64,
     entry: SlotShortcut,
-) -> OptionalCandidate
+) -> Option<Candidate>
     ensures { (l : List SlotShortcut) → best ≡ best_among views surfaces view class_mask l → result
         ≡ best_among views surfaces view class_mask (l ++ (entry ∷ [])) }
 {
@@ -46,52 +42,21 @@ fn best_among(
     shortcuts: Shortcuts,
     view: GenerationalHandle,
     class_mask: u64,
-) -> OptionalCandidate
+) -> Option<Candidate>
     ensures { result ≡ best_among views surfaces view class_mask (entries_of stored shortcuts) }
 {
-    let n = shortcuts.count();
-    let mut best = OptionalCandidate::None;
-    let mut i = 0;
-    while i < n {
-        let entry = shortcuts.entries[i];
-        let registration = entry.registration;
-        if shares_bit(registration.class_mask, class_mask) {
-            best = consider(best, views, surfaces, view, class_mask, entry);
+    let mut best = None;
+    for entry in shortcuts.entries() {
+        if shares_bit(entry.registration.class_mask, class_mask) {
+            best = consider(best, views, surfaces, view, class_mask, *entry);
         }
-        i += 1;
     }
     best
 }
 
-fn winner_of(best: OptionalCandidate) -> OptionalHandle
-    ensures { result ≡ winner_of best }
-{
-    match best {
-        OptionalCandidate::None => OptionalHandle::None,
-        OptionalCandidate::Some(candidate) => {
-            let surface = candidate.surface;
-            OptionalHandle::Some(surface)
-        }
-    }
-}
-
-fn resolved_with(outcome: Outcome, surface: OptionalHandle) -> Resolved
-    ensures { result ≡ resolved_with outcome surface }
-{
-    match outcome {
-        Outcome::Accepted => Resolved {
-            outcome: Outcome::Accepted,
-            surface,
-        },
-        Outcome::Refused(error) => Resolved {
-            outcome: Outcome::Refused(error),
-            surface: OptionalHandle::None,
-        },
-    }
-}
-
 // The panel whose registration wins. Whatever the tables hold is answered: the damage test and that of the view are the
 // caller's.
+#[tactic(auto, unfolding(crate::specs::Resolve::resolve_system_shortcut))]
 pub fn resolve_system_shortcut(
     views: ViewTable,
     surfaces: SurfaceTable,
@@ -101,7 +66,7 @@ pub fn resolve_system_shortcut(
 ) -> Resolved
     ensures { result ≡ resolve_system_shortcut views surfaces view class_mask (entries_of stored shortcuts) }
 {
-    let outcome = own_view_refusal(views.arena, surfaces, shortcuts, class_mask);
+    own_view_refusal(views.arena, surfaces, shortcuts, class_mask)?;
     let best = best_among(views, surfaces, shortcuts, view, class_mask);
-    resolved_with(outcome, winner_of(best))
+    Ok(best.map(|candidate| candidate.surface))
 }

@@ -2,12 +2,13 @@
 ghost use Rattle.std.specs.Prelude.{◌≡◌};
 ghost use Rattle.composition_shortcuts.specs.Scope.{shares_bit, owner_of, is_owned, in_scope, counts};
 
-use handles::arena::Arena;
-use handles::{GenerationalHandle, same_handle};
+use handles::GenerationalHandle;
+use handles::arena::{Arena, slot_at};
 use records::shortcut::{ShortcutScope, SlotShortcut};
 use records::surface::SurfaceTable;
 use records::view::ViewTable;
 
+#[tactic(auto, unfolding(crate::specs::Scope::shares_bit))]
 pub fn shares_bit(a: u64, b: u64) -> bool
     ensures { result ≡ shares_bit a b }
 {
@@ -18,11 +19,9 @@ pub fn shares_bit(a: u64, b: u64) -> bool
 pub fn owner_of(surfaces: Arena, entry: SlotShortcut) -> GenerationalHandle
     ensures { result ≡ owner_of surfaces entry }
 {
-    let slots = surfaces.slots;
-    let slot = handles::arena::slot_at(slots, entry.slot as usize);
     GenerationalHandle {
         index: entry.slot,
-        generation: slot.generation,
+        generation: slot_at(surfaces.slots, entry.slot as usize).generation,
     }
 }
 
@@ -31,9 +30,7 @@ fn is_owned(surfaces: Arena, entry: SlotShortcut) -> bool
     ensures { result ≡ is_owned surfaces entry }
 {
     let i = entry.slot as usize;
-    let slots = surfaces.slots;
-    let slot = handles::arena::slot_at(slots, i);
-    lists::both(i < surfaces.used, slot.filled)
+    i < surfaces.used && slot_at(surfaces.slots, i).filled
 }
 
 fn is_in_scope(
@@ -45,19 +42,14 @@ fn is_in_scope(
     ensures { result ≡ in_scope views scope own view }
 {
     match scope {
-        ShortcutScope::View => same_handle(own, view),
-        ShortcutScope::Window => {
-            let first = views.record(own);
-            let second = views.record(view);
-            let window = first.window;
-            let origin = second.window;
-            same_handle(window, origin)
-        }
+        ShortcutScope::View => own == view,
+        ShortcutScope::Window => views.record(own).window == views.record(view).window,
         ShortcutScope::Session => true,
     }
 }
 
 // The tests that need no view record come first.
+#[tactic(auto, unfolding(crate::specs::Scope::counts))]
 pub fn is_counted(
     views: ViewTable,
     surfaces: SurfaceTable,
@@ -67,15 +59,12 @@ pub fn is_counted(
 ) -> bool
     ensures { result ≡ counts views surfaces view class_mask entry }
 {
-    let registration = entry.registration;
-    let scope = registration.scope;
-    let arena = surfaces.arena;
-    if shares_bit(registration.class_mask, class_mask) {
-        if is_owned(arena, entry) {
-            let descriptor = surfaces.descriptor(owner_of(arena, entry));
-            let own = descriptor.view;
-            return is_in_scope(views, scope, own, view);
-        }
-    }
-    false
+    shares_bit(entry.registration.class_mask, class_mask)
+        && is_owned(surfaces.arena, entry)
+        && is_in_scope(
+            views,
+            entry.registration.scope,
+            surfaces.descriptor(owner_of(surfaces.arena, entry)).view,
+            view,
+        )
 }

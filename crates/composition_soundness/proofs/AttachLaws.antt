@@ -18,13 +18,12 @@ use Rattle.records.specs.declared.error.CompositionError.TheVariants.{InvalidVie
 use Rattle.composition_state.specs.declared.registry.CompositionRegistry.{CompositionRegistry}
 use Rattle.records.specs.declared.surface.SurfaceDescriptor.{SurfaceDescriptor}
 use Rattle.records.specs.declared.surface.SurfaceRecord.{SurfaceRecord}
-use Rattle.records.specs.declared.surface.SurfaceTable.{SurfaceTable}
+use Rattle.records.specs.Surfaces.{SurfaceTable, no_surface}
 use Rattle.composition_state.specs.Damage.{damage_refusal}
 use Rattle.records.specs.Errors.{refusal_if}
 use Rattle.records.specs.Layers.{is_layer_of, layers_with}
 use Rattle.composition_state.specs.Registry.{with_views, with_surfaces}
 use Rattle.records.specs.Shortcuts.{shortcuts, is_of_other_slot, shortcuts_without}
-use Rattle.records.specs.Surfaces.{no_surface}
 use Rattle.records.specs.Views.{view_at, view_refusal, with_layers}
 use Rattle.composition_state.proofs.SettleLaws.{then_last, if_accepted}
 use Rattle.composition_panels.specs.Panels.{layer_count, attach_refusal, new_surface, surface_added, layer_added, attached, attach_surface}

@@ -1,4 +1,6 @@
 -- What each passed check says, by the cases of its answer.
+use Rattle.std.specs.Result.{result_and}
+use Rattle.std.specs.Prelude.{is_ok, Ok, Err}
 use mathlib.Core.Path.{◌≡◌, refl, ap, ◌∙◌}
 use mathlib.Core.Bool.{Bool, true, false, cond}
 use Rattle.lists.proofs.ListLaws.{by_test, clash}
@@ -8,9 +10,7 @@ use Rattle.handles.specs.declared.arena.SlotStatus.TheVariants.{Live, Invalid, S
 use Rattle.handles.specs.declared.GenerationalHandle.{GenerationalHandle}
 use Rattle.handles.proofs.HandleLaws.{handles}
 use Rattle.records.specs.declared.error.CompositionError.{CompositionError}
-use Rattle.records.specs.declared.error.Outcome.{Outcome}
-use Rattle.records.specs.declared.error.Outcome.TheVariants.{Accepted, Refused}
-use Rattle.records.specs.Errors.{is_accepted, then_refusal, status_refusal}
+use Rattle.records.specs.Errors.{status_refusal, Outcome}
 use Rattle.records.specs.Layers.{is_live}
 
 -- what holds of both answers holds of the one that a test picks
@@ -18,14 +18,14 @@ pub either : {X : Type 0} (P : X → Type 0) (b : Bool) (x y : X) → P x → P 
 either P true x y p q = p
 either P false x y p q = q
 
-pub refused≢accepted {ℓ} : {P : Type ℓ} {e : CompositionError} → Refused e ≡ Accepted → P
-refused≢accepted q = clash (ap is_accepted q) refl
+pub refused≢accepted {ℓ} : {P : Type ℓ} {e : CompositionError} → ◌≡◌ {A = Outcome} (Err e) (Ok tt) → P
+refused≢accepted q = clash (ap (λ (o : Outcome). is_ok o) q) refl
 
-pub then_first : (a b : Outcome) → then_refusal a b ≡ Accepted → a ≡ Accepted
-then_first Accepted b h = refl
-then_first (Refused e) b h = h
+pub then_first : (a b : Outcome) → result_and a b ≡ Ok tt → a ≡ Ok tt
+then_first (Ok _) b h = refl
+then_first (Err e) b h = h
 
-pub status_live : (s : SlotStatus) (e f : CompositionError) → status_refusal s e f ≡ Accepted → s ≡ Live
+pub status_live : (s : SlotStatus) (e f : CompositionError) → status_refusal s e f ≡ Ok tt → s ≡ Live
 status_live Live e f h = refl
 status_live Invalid e f h = refused≢accepted h
 status_live Stale e f h = refused≢accepted h

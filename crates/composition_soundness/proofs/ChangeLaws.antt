@@ -16,20 +16,17 @@ use Rattle.handles.specs.Slots.{lookup_of}
 use Rattle.handles.specs.declared.arena.Arena.{Arena}
 use Rattle.handles.specs.declared.arena.SlotStatus.TheVariants.{Live}
 use Rattle.handles.specs.declared.GenerationalHandle.{GenerationalHandle}
-use Rattle.maps.specs.Captures.{captures, capture_key}
+use Rattle.maps.specs.Captures.{captures, capture_key, PointerCaptures}
 use Rattle.maps.specs.MapTables.{keys_rise}
-use Rattle.maps.specs.declared.captures.PointerCaptures.{PointerCaptures}
-use Rattle.records.specs.declared.layers.Layers.{Layers}
+use Rattle.records.specs.Layers.{Layers, layers, itself, z_of, layer_lt, layers_rise, is_live, is_layer_of}
 use Rattle.composition_state.specs.declared.registry.CompositionRegistry.{CompositionRegistry}
-use Rattle.records.specs.declared.shortcut.Shortcuts.{Shortcuts}
-use Rattle.records.specs.declared.surface.SurfaceTable.{SurfaceTable}
-use Rattle.records.specs.declared.trace.Traces.{Traces}
+use Rattle.records.specs.Shortcuts.{Shortcuts}
+use Rattle.records.specs.Surfaces.{SurfaceTable}
+use Rattle.records.specs.Traces.{Traces}
 use Rattle.records.specs.declared.view.ViewRecord.{ViewRecord}
-use Rattle.records.specs.declared.view.ViewTable.{ViewTable}
+use Rattle.records.specs.Views.{ViewTable, no_view, view_at, with_view}
 use Rattle.composition_state.specs.Damage.{traces_sound, layers_sound, view_sound}
-use Rattle.records.specs.Layers.{layers, itself, z_of, layer_lt, layers_rise, is_live, is_layer_of}
 use Rattle.composition_state.specs.Registry.{with_windows, with_views, with_surfaces, with_shortcuts, with_traces}
-use Rattle.records.specs.Views.{no_view, view_at, with_view}
 use Rattle.composition_soundness.proofs.CaseLaws.{live_is}
 use Rattle.composition_soundness.proofs.ListLaws.{set_keeps, all_as, rising_as}
 use Rattle.composition_soundness.proofs.PartLaws.{Parts}
@@ -41,7 +38,7 @@ pub record LayerParts (surfaces : SurfaceTable) (limit : ℕ) (view : Generation
   pub rise : layers_rise surfaces.records t ≡ true
 
 pub record CaptureParts (t : PointerCaptures) : Type 0 where
-  pub count : t.len ≤ 32
+  pub count : t.table.len ≤ 32
   pub rise : keys_rise captures capture_key t ≡ true
 
 pub record ViewParts (windows : Arena) (surfaces : SurfaceTable) (limit : ℕ) (view : GenerationalHandle) (v : ViewRecord) : Type 0 where
@@ -69,8 +66,8 @@ module _ (windows : Arena) (surfaces : SurfaceTable) (limit : ℕ) (view : Gener
         window = live_is (lookup_of windows v.window) (and_left (is_live (lookup_of windows v.window)) _ h);
         layered = layer_parts (and_left (layers_sound surfaces limit view v) _ h₁);
         captured = record {
-          count = leb-true v.pointer_captures.len 32 (and_left (leb v.pointer_captures.len 32) _ h₂);
-          rise = and_right (leb v.pointer_captures.len 32) _ h₂;
+          count = leb-true v.pointer_captures.table.len 32 (and_left (leb v.pointer_captures.table.len 32) _ h₂);
+          rise = and_right (leb v.pointer_captures.table.len 32) _ h₂;
         };
       }
 
@@ -79,7 +76,7 @@ module _ (windows : Arena) (surfaces : SurfaceTable) (limit : ℕ) (view : Gener
   view_sound_lem x =
       and_both (ap is_live x.window)
       (and_both (and_both (le-leb v.surfaces.len limit x.layered.count) (and_both x.layered.own x.layered.rise))
-      (and_both (le-leb v.pointer_captures.len 32 x.captured.count) x.captured.rise))
+      (and_both (le-leb v.pointer_captures.table.len 32 x.captured.count) x.captured.rise))
 
 -- ---- layers under another table of panels
 -- a layer is still one, at its place in the order

@@ -1,13 +1,13 @@
 -- The claims hold: the test as facts of its parts, the call on the facts, and the facts as the test again; and no check
 -- of a call but that of damage answers 42.
+use Rattle.records.specs.Errors.{Outcome}
 use Prim.Native.Nat.{ℕ}
 use mathlib.Core.Path.{ap}
 use lib.Dec.{eqb}
 use Rattle.lists.proofs.ListLaws.{clash}
-use Rattle.records.specs.declared.error.Outcome.{Outcome}
 use Rattle.composition_state.specs.declared.registry.CompositionRegistry.{CompositionRegistry}
 use Rattle.composition_input.specs.Captures.{primary}
-use Rattle.composition_shortcuts.specs.declared.register.Registrations.{Registrations}
+use Rattle.composition_shortcuts.specs.Registrations.{Registrations}
 use Rattle.composition_shortcuts.specs.Register.{registration_list, of_mask}
 use Rattle.calls.specs.declared.call.PanelCall.{PanelCall}
 use Rattle.calls.specs.declared.call.PanelCall.TheVariants as panel

@@ -1,39 +1,36 @@
 -- No check but that of damage answers 42: by the cases of its answer, and by the numbers.
+use Rattle.std.specs.Prelude.{Option, Ok, Err, None, Some}
+use Rattle.std.specs.Result.{result_and}
 use mathlib.Core.Path.{◌≡◌, refl}
 use mathlib.Core.Bool.{Bool, true, false, not}
 use lib.Dec.{eqb}
-use Rattle.handles.specs.declared.arena.ReleaseOutcome.{ReleaseOutcome}
-use Rattle.handles.specs.declared.arena.ReleaseOutcome.TheVariants as release
+use Rattle.handles.specs.Slots.{ReleaseOutcome}
+use Rattle.handles.specs.declared.arena.ReleaseError.TheVariants as release
 use Rattle.handles.specs.declared.arena.SlotStatus.{SlotStatus}
 use Rattle.handles.specs.declared.arena.SlotStatus.TheVariants.{Live, Invalid, Stale}
 use Rattle.handles.specs.declared.GenerationalHandle.{GenerationalHandle}
-use Rattle.handles.specs.declared.OptionalHandle.{OptionalHandle}
 use Rattle.records.specs.declared.error.CompositionError.{CompositionError}
 use Rattle.records.specs.declared.error.CompositionError.TheVariants.{InvalidWindow, StaleWindow, InvalidView, StaleView, InvalidSurface, StaleSurface, NotInteractive, RevisionConflict}
-use Rattle.records.specs.declared.error.Outcome.{Outcome}
-use Rattle.records.specs.declared.error.Outcome.TheVariants.{Accepted, Refused}
-use Rattle.composition_state.specs.declared.registry.Changed.{Changed}
+use Rattle.composition_state.specs.Registry.{Changed}
 use Rattle.composition_state.specs.declared.registry.CompositionRegistry.{CompositionRegistry}
 use Rattle.records.specs.declared.trace.ArbitrationEvent.{ArbitrationEvent}
 use Rattle.composition_state.specs.Damage.{is_sound, damage_refusal}
-use Rattle.records.specs.Errors.{error_number, number_of, then_refusal, refusal_if, status_refusal}
+use Rattle.records.specs.Errors.{error_number, number_of, refusal_if, status_refusal, Outcome}
 use Rattle.composition_state.specs.Registry.{window_refusal, conflict_refusal, advanced, settled}
 use Rattle.composition_panels.specs.Windows.{exhausted_refusal}
 use Prim.Native.Nat.{ℕ}
-use mathlib.Core.Option.{Option, none, some}
 use Rattle.lists.specs.Lists.{first}
 use Rattle.lists.specs.Tables.{entries_of}
 use Rattle.lists.specs.Numbers.{max_u64}
 use Rattle.handles.specs.Slots.{lookup_of, live_handles}
 use Rattle.handles.specs.declared.arena.Arena.{Arena}
-use Rattle.records.specs.declared.surface.SurfaceTable.{SurfaceTable}
+use Rattle.records.specs.Surfaces.{SurfaceTable, is_interactive, descriptor_of, surface_status, surface_refusal}
 use Rattle.records.specs.declared.trace.ArbitrationEvent.TheVariants.{Pointer, PointerStack, PointerFor, PointerStackFor, Keyboard, KeyboardFor, Gamepad, GamepadFor, Text, Shortcut, SystemShortcut}
 use Rattle.records.specs.Shortcuts.{shortcuts}
-use Rattle.records.specs.Surfaces.{is_interactive, descriptor_of, surface_status, surface_refusal}
 use Rattle.records.specs.Views.{view_status, view_refusal}
 use Rattle.composition_input.specs.Focus.{described, interactive_refusal, entry_refusal}
 use Rattle.composition_shortcuts.specs.OwnView.{is_refused, refusal_of, own_view_refusal}
-use Rattle.composition_shortcuts.specs.Resolve.{resolved_with, winner, resolve_system_shortcut}
+use Rattle.composition_shortcuts.specs.Resolve.{resolved_outcome, winner, resolve_system_shortcut}
 use Rattle.composition_arbitration.specs.Arbitration.{resolution_of, resolution}
 use Rattle.composition_soundness.proofs.CaseLaws.{either}
 
@@ -41,17 +38,22 @@ use Rattle.composition_soundness.proofs.CaseLaws.{either}
 pub record Clear (o : Outcome) : Type 0 where
   pub clear : eqb (number_of o) 42 ≡ false
 
-pub accepted : Clear Accepted
+pub accepted : Clear (Ok tt)
 accepted = record { clear = refl }
 
-pub refused : (e : CompositionError) → eqb (error_number e) 42 ≡ false → Clear (Refused e)
+pub refused : (e : CompositionError) → eqb (error_number e) 42 ≡ false → Clear (Err e)
 refused e h = record { clear = h }
 
-both_clear : (a b : Outcome) → Clear a → Clear b → Clear (then_refusal a b)
-both_clear Accepted b p q = q
-both_clear (Refused e) b p q = p
+-- the value that a call makes does not alter whether it is accepted
+pub with_value : {T : Type 0} (v : T) (o : Outcome) → Clear o → Clear (result_and (result_and o (Ok v)) (Ok tt))
+with_value v (Ok _) p = accepted
+with_value v (Err e) p = p
 
-pub then_clear : {a b : Outcome} → Clear a → Clear b → Clear (then_refusal a b)
+both_clear : (a b : Outcome) → Clear a → Clear b → Clear (result_and a b)
+both_clear (Ok _) b p q = q
+both_clear (Err e) b p q = p
+
+pub then_clear : {a b : Outcome} → Clear a → Clear b → Clear (result_and a b)
 then_clear {a} {b} p q = both_clear a b p q
 
 pub if_clear : (b : Bool) (e : CompositionError) → eqb (error_number e) 42 ≡ false → Clear (refusal_if b e)
@@ -64,18 +66,18 @@ status_clear Invalid e f h k = refused e h
 status_clear Stale e f h k = refused f k
 
 pub exhausted_clear : (o : ReleaseOutcome) → Clear (exhausted_refusal o)
-exhausted_clear release.Released = accepted
-exhausted_clear release.Invalid = accepted
-exhausted_clear release.Stale = accepted
-exhausted_clear release.GenerationExhausted = record { clear = refl }
+exhausted_clear (Ok _) = accepted
+exhausted_clear (Err release.Invalid) = accepted
+exhausted_clear (Err release.Stale) = accepted
+exhausted_clear (Err release.GenerationExhausted) = record { clear = refl }
 
 advanced_clear : (c : CompositionRegistry) → Clear (advanced c).outcome
 unfolding advanced
 advanced_clear c = either (λ (x : Changed). Clear x.outcome) (eqb c.revision max_u64) _ _ (record { clear = refl }) accepted
 
 pub settled_clear : (o : Outcome) (r c : CompositionRegistry) → Clear o → Clear (settled o r c).outcome
-settled_clear Accepted r c p = advanced_clear c
-settled_clear (Refused e) r c p = p
+settled_clear (Ok _) r c p = advanced_clear c
+settled_clear (Err e) r c p = p
 
 -- ---- the checks that many calls make
 pub conflict : (m n : ℕ) → Clear (conflict_refusal m n)
@@ -103,17 +105,13 @@ module _ (r : CompositionRegistry) where
 
 -- ---- what a system shortcut looks up
 own_view : (views : Arena) (surfaces : SurfaceTable) (o : Option GenerationalHandle) → Clear (refusal_of views surfaces o)
-own_view views surfaces none = accepted
-own_view views surfaces (some h) = status_clear (lookup_of views (descriptor_of surfaces h).view) InvalidView StaleView refl refl
+own_view views surfaces None = accepted
+own_view views surfaces (Some h) = status_clear (lookup_of views (descriptor_of surfaces h).view) InvalidView StaleView refl refl
 
-resolved : (o : Outcome) (h : OptionalHandle) → Clear o → Clear (resolved_with o h).outcome
-resolved Accepted h p = p
-resolved (Refused e) h p = p
-
-pub resolution_clear : (r : CompositionRegistry) (view : GenerationalHandle) (event : ArbitrationEvent) → Clear (resolution r view event).outcome
+pub resolution_clear : (r : CompositionRegistry) (view : GenerationalHandle) (event : ArbitrationEvent) → Clear (resolved_outcome (resolution r view event))
 unfolding resolution_of resolve_system_shortcut own_view_refusal
 resolution_clear r view (SystemShortcut mask) =
-    resolved (own_view_refusal r.views.arena r.surfaces mask (entries_of shortcuts r.shortcuts)) (winner r.views r.surfaces view mask (entries_of shortcuts r.shortcuts))
+    with_value (winner r.views r.surfaces view mask (entries_of shortcuts r.shortcuts)) (own_view_refusal r.views.arena r.surfaces mask (entries_of shortcuts r.shortcuts))
     (own_view r.views.arena r.surfaces (first (is_refused r.views.arena r.surfaces mask (entries_of shortcuts r.shortcuts)) (live_handles r.surfaces.arena)))
 resolution_clear r view (Pointer hit) = accepted
 resolution_clear r view PointerStack = accepted

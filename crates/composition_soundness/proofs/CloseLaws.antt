@@ -1,4 +1,6 @@
 -- A panel's close: its own view is left without it, and no other view has it as a layer, since every layer names its own view; so its slot can go.
+use Rattle.std.specs.Prelude.{Ok, Err}
+use Rattle.records.specs.Errors.{Outcome}
 use Prim.Native.Nat.{ℕ, ◌≤◌, ◌<◌}
 use mathlib.Core.Path.{◌≡◌, refl, sym, ap, ◌∙◌, subst}
 use mathlib.Core.Bool.{Bool, true, not, ◌&&◌}
@@ -18,15 +20,12 @@ use Rattle.handles.proofs.ClaimLaws as arena
 use Rattle.handles.proofs.HandleLaws.{handles}
 use Rattle.handles.proofs.LookupLaws.{live_facts}
 use Rattle.handles.proofs.SlotLaws.{by_same}
-use Rattle.records.specs.declared.error.Outcome.{Outcome}
-use Rattle.records.specs.declared.error.Outcome.TheVariants.{Accepted, Refused}
 use Rattle.composition_state.specs.declared.registry.CompositionRegistry.{CompositionRegistry}
-use Rattle.records.specs.declared.surface.SurfaceTable.{SurfaceTable}
+use Rattle.records.specs.Surfaces.{SurfaceTable, surfaces_with}
 use Rattle.records.specs.declared.view.ViewRecord.{ViewRecord}
 use Rattle.records.specs.Layers.{layers, is_layer_of}
 use Rattle.composition_state.specs.Registry.{with_surfaces}
 use Rattle.records.specs.Shortcuts.{shortcuts, is_of_other_slot, shortcuts_without}
-use Rattle.records.specs.Surfaces.{surfaces_with}
 use Rattle.records.specs.Views.{no_view, view_at}
 use Rattle.composition_close.specs.Close.{close_refusal, detached, freed, closed_panel, slot_refusal, close_settled, close_after, close_surface}
 use Rattle.composition_close.specs.Detach.{own_view, is_on_surface, detached_view}
@@ -113,8 +112,8 @@ module _ (r : CompositionRegistry) (p : Parts r) (h : GenerationalHandle) where
 
   close_after_lem : (o : Outcome) → Parts (close_after o r h).registry
   unfolding close_settled
-  close_after_lem Accepted = keeps (slot_refusal r h) (detached h r) (closed_panel h r) panel_detached (λ a. panel_closed_lem)
-  close_after_lem (Refused e) = p
+  close_after_lem (Ok _) = keeps (slot_refusal r h) (detached h r) (closed_panel h r) panel_detached (λ a. panel_closed_lem)
+  close_after_lem (Err e) = p
 
   pub close_surface_lem : Parts (close_surface r h).registry
   unfolding close_surface

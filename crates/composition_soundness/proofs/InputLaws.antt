@@ -1,4 +1,5 @@
 -- The calls on focus, captures and compositions change one view's record, of which only the captures are tested: an insertion and a removal keep their keys rising.
+use Rattle.std.specs.Prelude.{Option, None, Some, Ok}
 use Prim.Native.Nat.{ℕ, zero, suc, ◌≤◌}
 use mathlib.Core.Path.{◌≡◌, refl, sym, ap, ◌∙◌, subst}
 use mathlib.Core.Bool.{Bool, true, cond, not}
@@ -15,27 +16,21 @@ use Rattle.lists.proofs.TableLaws.{entries_packed, len_packed}
 use Rattle.handles.specs.Slots.{slot_at, lookup_of}
 use Rattle.handles.specs.declared.arena.Arena.{Arena}
 use Rattle.handles.specs.declared.GenerationalHandle.{GenerationalHandle}
-use Rattle.handles.specs.declared.OptionalHandle.{OptionalHandle}
-use Rattle.handles.specs.declared.OptionalHandle.TheVariants as O
-use Rattle.maps.specs.Captures.{captures, capture_key}
+use Rattle.maps.specs.Captures.{captures, capture_key, PointerCaptures}
 use Rattle.maps.specs.Keys.{pointer_key, key_lt, key_same, pointer_valid}
 use Rattle.maps.specs.MapTables.{accepts, inserted, retained}
 use Rattle.maps.specs.declared.captures.Capture.{Capture}
-use Rattle.maps.specs.declared.captures.PointerCaptures.{PointerCaptures}
 use Rattle.maps.specs.declared.keys.CompositionPointerId.{CompositionPointerId}
 use Rattle.maps.proofs.MapTableLaws as map
 use Rattle.records.specs.declared.error.CompositionError.TheVariants.{NotInteractive, PortLimit}
-use Rattle.records.specs.declared.error.Outcome.TheVariants.{Accepted}
-use Rattle.composition_state.specs.declared.registry.Changed.{Changed}
+use Rattle.composition_state.specs.Registry.{Changed}
 use Rattle.composition_state.specs.declared.registry.CompositionRegistry.{CompositionRegistry}
-use Rattle.records.specs.declared.surface.SurfaceTable.{SurfaceTable}
+use Rattle.records.specs.Surfaces.{SurfaceTable, surface_refusal}
 use Rattle.records.specs.declared.view.ViewRecord.{ViewRecord}
-use Rattle.records.specs.declared.view.ViewTable.{ViewTable}
+use Rattle.records.specs.Views.{ViewTable, view_at, view_refusal, view_slots, with_focus, with_ime, with_pointer_capture, with_pointer_captures}
 use Rattle.composition_state.specs.Damage.{view_handle}
 use Rattle.records.specs.Errors.{refusal_if}
 use Rattle.composition_state.specs.Registry.{with_views}
-use Rattle.records.specs.Surfaces.{surface_refusal}
-use Rattle.records.specs.Views.{view_at, view_refusal, view_slots, with_focus, with_ime, with_pointer_capture, with_pointer_captures}
 use Rattle.composition_state.proofs.SettleLaws.{then_last, if_accepted}
 use Rattle.composition_input.specs.Focus.{entry_refusal, own_view, interactive_refusal, with_view_record, focus_refusal, set_focus, begin_ime_refusal, begin_ime, end_ime_refusal, end_ime, suspend_refusal, suspended_view, suspend_view_input}
 use Rattle.composition_input.specs.Captures.{primary, is_primary, capture, own_record, capture_refusal, captured_view, capture_pointer_for, released_view, release_for_refusal, release_pointer_for, release_refusal, release_pointer, is_of_device, loses_primary, left_view, cleared_at, device_captures, device_cleared, device_refusal, release_device_pointer_captures}
@@ -77,31 +72,31 @@ inserted_captured e t a x =
 
 module _ {windows : Arena} {surfaces : SurfaceTable} {limit : ℕ} {view : GenerationalHandle} {v : ViewRecord} (x : ViewParts windows surfaces limit view v) where
   -- the map alone, or the single field with it
-  recaptured : (b : Bool) (m : OptionalHandle) (t : PointerCaptures) → CaptureParts t
+  recaptured : (b : Bool) (m : Option GenerationalHandle) (t : PointerCaptures) → CaptureParts t
       → ViewParts windows surfaces limit view (cond b (with_pointer_capture m (with_pointer_captures t v)) (with_pointer_captures t v))
   recaptured b m t c = either (ViewParts windows surfaces limit view) b _ _
       (as_before (with_pointer_capture m (with_pointer_captures t v)) x refl refl c) (as_before (with_pointer_captures t v) x refl refl c)
 
 -- ---- the calls
 module _ (r : CompositionRegistry) (p : Parts r) where
-  pub focus : (view : GenerationalHandle) (h : OptionalHandle) (n : ℕ) → Parts (set_focus r view h n).registry
+  pub focus : (view : GenerationalHandle) (h : Option GenerationalHandle) (n : ℕ) → Parts (set_focus r view h n).registry
   unfolding set_focus
   focus view h n = keeps (focus_refusal r view h n) r _ p (λ a. view_changed r p view (with_focus h (view_at r.views view)) (λ g e i x. as_before _ x refl refl x.captured))
 
   pub begin_ime_lem : (h : GenerationalHandle) (n : ℕ) → Parts (begin_ime r h n).registry
   unfolding begin_ime
-  begin_ime_lem h n = keeps (begin_ime_refusal r h n) r _ p (λ a. view_changed r p (own_view r h) (with_ime (O.Some h) (own_record r h)) (λ g e i x. as_before _ x refl refl x.captured))
+  begin_ime_lem h n = keeps (begin_ime_refusal r h n) r _ p (λ a. view_changed r p (own_view r h) (with_ime (Some h) (own_record r h)) (λ g e i x. as_before _ x refl refl x.captured))
 
   pub end_ime_lem : (h : GenerationalHandle) (n : ℕ) → Parts (end_ime r h n).registry
   unfolding end_ime
-  end_ime_lem h n = keeps (end_ime_refusal r h n) r _ p (λ a. view_changed r p (own_view r h) (with_ime O.None (own_record r h)) (λ g e i x. as_before _ x refl refl x.captured))
+  end_ime_lem h n = keeps (end_ime_refusal r h n) r _ p (λ a. view_changed r p (own_view r h) (with_ime None (own_record r h)) (λ g e i x. as_before _ x refl refl x.captured))
 
   pub suspend : (view : GenerationalHandle) (n : ℕ) → Parts (suspend_view_input r view n).registry
   unfolding suspend_view_input
   suspend view n = keeps (suspend_refusal r view n) r _ p (λ a. view_changed r p view (suspended_view (view_at r.views view)) (λ g e i x. as_before _ x refl refl none_captured))
 
   -- the last check of a capture: the map takes the pointer
-  accepted : (q : CompositionPointerId) (h : GenerationalHandle) (n : ℕ) → capture_refusal r q h n ≡ Accepted
+  accepted : (q : CompositionPointerId) (h : GenerationalHandle) (n : ℕ) → capture_refusal r q h n ≡ Ok tt
       → accepts captures capture_key (capture q h) (own_record r h).pointer_captures ≡ true
   accepted q h n a =
       let a₁ = then_last (entry_refusal r n) _ a in
@@ -114,11 +109,11 @@ module _ (r : CompositionRegistry) (p : Parts r) where
   pub capture_pointer_for_lem : (q : CompositionPointerId) (h : GenerationalHandle) (n : ℕ) → Parts (capture_pointer_for r q h n).registry
   unfolding capture_pointer_for
   capture_pointer_for_lem q h n = keeps (capture_refusal r q h n) r _ p (λ a. view_changed r p (own_view r h) (captured_view q h (own_record r h))
-      (λ g e i x. recaptured x (is_primary q) (O.Some h) _ (inserted_captured (capture q h) (own_record r h).pointer_captures (accepted q h n a) x.captured)))
+      (λ g e i x. recaptured x (is_primary q) (Some h) _ (inserted_captured (capture q h) (own_record r h).pointer_captures (accepted q h n a) x.captured)))
 
   without : (q : CompositionPointerId) (h : GenerationalHandle) → Parts (with_view_record (own_view r h) (released_view q (own_record r h)) r)
   without q h = view_changed r p (own_view r h) (released_view q (own_record r h))
-      (λ g e i x. recaptured x (is_primary q) O.None _ (kept_captured (λ e. not (key_same (pointer_key q) (capture_key e))) (own_record r h).pointer_captures x.captured))
+      (λ g e i x. recaptured x (is_primary q) None _ (kept_captured (λ e. not (key_same (pointer_key q) (capture_key e))) (own_record r h).pointer_captures x.captured))
 
   pub release_pointer_for_lem : (q : CompositionPointerId) (h : GenerationalHandle) (n : ℕ) → Parts (release_pointer_for r q h n).registry
   unfolding release_pointer_for
@@ -138,7 +133,7 @@ module _ (r : CompositionRegistry) (p : Parts r) where
         let v : ViewRecord = view_at t (view_handle t n) in
         either (λ (x : ViewTable). Parts (with_views x r)) (slot_at t.arena n).filled _ _
         (view_changed (with_views t r) (cleared n) (view_handle t n) (left_view device generation v)
-        (λ g e i x. recaptured x (loses_primary device generation v.pointer_captures) O.None _ (kept_captured (λ e. not (is_of_device device generation e)) v.pointer_captures x.captured)))
+        (λ g e i x. recaptured x (loses_primary device generation v.pointer_captures) None _ (kept_captured (λ e. not (is_of_device device generation e)) v.pointer_captures x.captured)))
         (cleared n)
 
     pub release_device : Parts (release_device_pointer_captures r device generation).registry

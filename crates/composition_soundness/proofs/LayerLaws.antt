@@ -18,10 +18,8 @@ use Rattle.handles.specs.declared.arena.SlotStatus.{SlotStatus}
 use Rattle.handles.specs.declared.arena.SlotStatus.TheVariants.{Live}
 use Rattle.handles.specs.declared.GenerationalHandle.{GenerationalHandle}
 use Rattle.handles.proofs.HandleLaws.{handles}
-use Rattle.records.specs.declared.layers.Layers.{Layers}
-use Rattle.records.specs.declared.surface.SurfaceTable.{SurfaceTable}
-use Rattle.records.specs.Layers.{layers, itself, layer_lt, layers_with, is_live, is_layer_of}
-use Rattle.records.specs.Surfaces.{descriptor_of}
+use Rattle.records.specs.Layers.{Layers, layers, itself, layer_lt, layers_with, is_live, is_layer_of}
+use Rattle.records.specs.Surfaces.{SurfaceTable, descriptor_of}
 use Rattle.records.proofs.LayerLaws as layer
 use Rattle.composition_soundness.proofs.CaseLaws.{live_is}
 use Rattle.composition_soundness.proofs.ListLaws.{all_keep, entries_few, kept_few}

@@ -15,4 +15,3 @@ pub mod ShutdownLaws
 pub mod ClaimLaws
 pub mod ClearLaws
 pub mod AnswerLaws
-pub mod TypeLaws

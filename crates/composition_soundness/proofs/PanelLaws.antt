@@ -13,15 +13,14 @@ use Rattle.handles.specs.declared.GenerationalHandle.{GenerationalHandle}
 use Rattle.composition_state.specs.declared.registry.CompositionRegistry.{CompositionRegistry}
 use Rattle.records.specs.declared.surface.SurfaceInputPolicy.{SurfaceInputPolicy}
 use Rattle.records.specs.declared.surface.SurfaceRecord.{SurfaceRecord}
-use Rattle.records.specs.declared.surface.SurfaceTable.{SurfaceTable}
+use Rattle.records.specs.Surfaces.{SurfaceTable, no_surface, surface_at, surface_status, with_surface, with_geometry, with_input}
 use Rattle.records.specs.Layers.{is_live, is_layer_of}
 use Rattle.composition_state.specs.Registry.{with_surfaces}
 use Rattle.records.specs.Shortcuts.{shortcuts}
-use Rattle.records.specs.Surfaces.{no_surface, surface_at, surface_status, with_surface, with_geometry, with_input}
 use Rattle.records.specs.Views.{view_at, with_metrics}
 use Rattle.composition_panels.specs.Metrics.{metrics_refusal, new_metrics, update_view_metrics}
 use Rattle.composition_panels.specs.Panels.{geometry_refusal, update_surface_geometry, policy_refusal, update_surface_input_policy}
-use Rattle.composition_shortcuts.specs.declared.register.Registrations.{Registrations}
+use Rattle.composition_shortcuts.specs.Registrations.{Registrations}
 use Rattle.composition_shortcuts.specs.Register.{replaced_entries, fits, replaced, register_refusal, register_surface_system_shortcut_set}
 use Rattle.composition_soundness.proofs.ListLaws.{field_kept}
 use Rattle.composition_soundness.proofs.PartLaws.{Parts, keeps}

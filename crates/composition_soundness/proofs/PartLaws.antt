@@ -1,4 +1,6 @@
 -- The damage test as facts of its parts, the views' by their live handles; and a call that settles keeps them if its change does.
+use Rattle.std.specs.Prelude.{Ok, Err}
+use Rattle.records.specs.Errors.{Outcome}
 use Prim.Native.Nat.{ℕ, ◌+◌, ◌≤◌}
 use mathlib.Core.Path.{◌≡◌, refl, sym, ap, ◌∙◌}
 use mathlib.Core.Bool.{true, ◌||◌}
@@ -18,17 +20,14 @@ use Rattle.handles.specs.declared.arena.Arena.{Arena}
 use Rattle.handles.specs.declared.arena.SlotStatus.TheVariants.{Live}
 use Rattle.handles.specs.declared.GenerationalHandle.{GenerationalHandle}
 use Rattle.handles.proofs.LookupLaws.{live_facts}
-use Rattle.records.specs.declared.error.Outcome.{Outcome}
-use Rattle.records.specs.declared.error.Outcome.TheVariants.{Accepted, Refused}
-use Rattle.composition_state.specs.declared.registry.Changed.{Changed}
+use Rattle.composition_state.specs.Registry.{Changed}
 use Rattle.composition_state.specs.declared.registry.CompositionLimits.{CompositionLimits}
 use Rattle.composition_state.specs.declared.registry.CompositionRegistry.{CompositionRegistry}
-use Rattle.records.specs.declared.surface.SurfaceTable.{SurfaceTable}
-use Rattle.records.specs.declared.view.ViewTable.{ViewTable}
+use Rattle.records.specs.Surfaces.{SurfaceTable}
+use Rattle.records.specs.Views.{ViewTable, view_at}
 use Rattle.composition_state.specs.Damage.{limits_sound, arenas_sound, traces_sound, view_sound, view_handle, slot_sound, views_sound, is_sound}
 use Rattle.composition_state.specs.Registry.{with_revision, advanced, settled}
 use Rattle.composition_state.specs.Start.{any_zero, any_over_port}
-use Rattle.records.specs.Views.{view_at}
 use Rattle.composition_soundness.specs.Claims.{WholeArena, Undamaged}
 use Rattle.composition_state.proofs.DamageLaws.{or_left, or_right}
 use Rattle.composition_soundness.proofs.CaseLaws.{either}
@@ -161,6 +160,6 @@ pub revised : (c : CompositionRegistry) → Parts c → Parts (advanced c).regis
 unfolding advanced
 revised c p = either (λ (x : Changed). Parts x.registry) (eqb c.revision max_u64) _ _ p (again (c.revision + 1) c p)
 
-pub keeps : (o : Outcome) (r c : CompositionRegistry) → Parts r → (o ≡ Accepted → Parts c) → Parts (settled o r c).registry
-keeps Accepted r c p f = revised c (f refl)
-keeps (Refused e) r c p f = p
+pub keeps : (o : Outcome) (r c : CompositionRegistry) → Parts r → (o ≡ Ok tt → Parts c) → Parts (settled o r c).registry
+keeps (Ok _) r c p f = revised c (f refl)
+keeps (Err e) r c p f = p

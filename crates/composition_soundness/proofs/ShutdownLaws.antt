@@ -1,4 +1,5 @@
 -- A shutdown is closes of panels, views and windows: each keeps the test, and when the windows' turn comes no view is live.
+use Rattle.std.specs.Prelude.{Ok, Err}
 use Prim.Native.Nat.{ℕ, zero, suc, ◌≤◌, ◌<◌}
 use mathlib.Core.Path.{◌≡◌, refl, sym, ap, ◌∙◌}
 use mathlib.Core.Bool.{true, not}
@@ -22,16 +23,13 @@ use Rattle.handles.proofs.ListedLaws.{places}
 use Rattle.handles.proofs.LookupLaws.{live_facts}
 use Rattle.handles.proofs.SoundLaws.{sound}
 use Rattle.records.specs.declared.error.CompositionError.TheVariants.{RevisionExhausted, GenerationExhausted}
-use Rattle.records.specs.declared.error.Outcome.{Outcome}
-use Rattle.records.specs.declared.error.Outcome.TheVariants.{Accepted, Refused}
-use Rattle.composition_state.specs.declared.registry.Changed.{Changed}
+use Rattle.composition_state.specs.Registry.{Changed}
 use Rattle.composition_state.specs.declared.registry.CompositionRegistry.{CompositionRegistry}
-use Rattle.records.specs.declared.view.ViewTable.{ViewTable}
+use Rattle.records.specs.Views.{ViewTable, view_at, view_slots, views_with}
 use Rattle.composition_state.specs.Damage.{damage_refusal, view_handle}
-use Rattle.records.specs.Errors.{refusal_if}
+use Rattle.records.specs.Errors.{refusal_if, Outcome}
 use Rattle.records.specs.Layers.{layers, is_live}
 use Rattle.composition_state.specs.Registry.{with_windows, with_views, advanced}
-use Rattle.records.specs.Views.{view_at, view_slots, views_with}
 use Rattle.composition_state.proofs.SettleLaws.{then_last, if_accepted}
 use Rattle.composition_close.specs.declared.shutdown.Closing.{Closing}
 use Rattle.composition_close.specs.Close.{detached, freed, closed_panel}
@@ -181,9 +179,9 @@ module _ (r : CompositionRegistry) (p : Parts r) where
   unfolding shut_down windows_closed
   shut_down_lem fresh = (all_windows (views_closed r).registry (record { kept = views_kept r p fresh; none = views_gone r p fresh }) (used_places (views_closed r).registry.windows)).kept
 
-  shut_after : (o : Outcome) → (o ≡ Accepted → none_exhausted r.views.arena ≡ true) → Parts (shutdown_after o r).registry
-  shut_after Accepted f = shut_down_lem (f refl)
-  shut_after (Refused e) f = p
+  shut_after : (o : Outcome) → (o ≡ Ok tt → none_exhausted r.views.arena ≡ true) → Parts (shutdown_after o r).registry
+  shut_after (Ok _) f = shut_down_lem (f refl)
+  shut_after (Err e) f = p
 
   pub shutdown : Parts (shutdown_of r).registry
   unfolding shutdown_of

@@ -1,4 +1,5 @@
 -- A registry just started passes the damage test: its limits are those that the start accepts, and it has no slot, registration, trace or view.
+use Rattle.std.specs.Prelude.{is_ok, Ok}
 use Prim.Native.Nat.{ℕ, ◌≤◌, ◌<◌}
 use mathlib.Core.Path.{◌≡◌, refl, sym, ap, ◌∙◌, subst}
 use mathlib.Core.Bool.{Bool, true, false, not, ◌||◌}
@@ -16,10 +17,9 @@ use Rattle.handles.specs.declared.GenerationalHandle.{GenerationalHandle}
 use Rattle.handles.proofs.ClaimLaws.{claims}
 use Rattle.handles.proofs.LookupLaws.{live_facts}
 use Rattle.records.specs.declared.error.CompositionError.TheVariants.{InvalidConfig, InvalidOwner, PortLimit}
-use Rattle.records.specs.declared.error.Outcome.TheVariants.{Accepted}
 use Rattle.composition_state.specs.declared.registry.CompositionLimits.{CompositionLimits}
 use Rattle.composition_state.specs.Damage.{limits_sound, trace_sound, traces_sound}
-use Rattle.records.specs.Errors.{is_accepted, refusal_if}
+use Rattle.records.specs.Errors.{refusal_if}
 use Rattle.records.specs.Shortcuts.{shortcuts}
 use Rattle.composition_state.specs.Start.{any_zero, any_over_u32, any_over_port, is_unowned, is_misconfigured, start_refusal, fresh_registry, started}
 use Rattle.records.specs.Traces.{traces}
@@ -44,14 +44,14 @@ three_false : {a b c : Bool} → a ≡ false → b ≡ false → c ≡ false →
 three_false p q s = rw (p, q, s)
 
 module _ (session : GenerationalHandle) (epoch : ℕ) (limits : CompositionLimits) (revision generation : ℕ) where
-  fits : start_refusal session epoch limits generation ≡ Accepted → limits_sound limits generation ≡ true
+  fits : start_refusal session epoch limits generation ≡ Ok tt → limits_sound limits generation ≡ true
   fits a =
       let a₁ = then_last (refusal_if (is_unowned session epoch) InvalidOwner) _ a in
       let config = if_accepted (is_misconfigured limits generation) InvalidConfig (then_first (refusal_if (is_misconfigured limits generation) InvalidConfig) _ a₁) in
       let port = if_accepted (any_over_port limits) PortLimit (then_last (refusal_if (is_misconfigured limits generation) InvalidConfig) _ a₁) in
       three_false (or_left (any_zero limits) _ config) port (or_right (any_over_u32 limits) _ (or_right (any_zero limits) _ config))
 
-  fresh : start_refusal session epoch limits generation ≡ Accepted → Parts (fresh_registry session epoch limits revision generation)
+  fresh : start_refusal session epoch limits generation ≡ Ok tt → Parts (fresh_registry session epoch limits revision generation)
   unfolding fresh_registry
   fresh a = record {
     limits = fits a;
@@ -65,7 +65,7 @@ module _ (session : GenerationalHandle) (epoch : ℕ) (limits : CompositionLimit
     each = λ h e. absurd (none_live h e);
   }
 
-  pub start : (started session epoch limits revision generation).outcome ≡ Accepted → Parts (started session epoch limits revision generation).registry
-  start q = by_test (is_accepted (start_refusal session epoch limits generation))
+  pub start : (started session epoch limits revision generation).outcome ≡ Ok tt → Parts (started session epoch limits revision generation).registry
+  start q = by_test (is_ok (start_refusal session epoch limits generation))
       (λ t. rw t (fresh (accepted_eq (start_refusal session epoch limits generation) t)))
-      (λ t. clash (ap is_accepted (rw t at q)) t)
+      (λ t. clash (ap is_ok (rw t at q)) t)

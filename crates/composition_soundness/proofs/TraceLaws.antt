@@ -1,4 +1,5 @@
 -- An arbitration adds one trace: its hits are counted by the check of 41, its deliveries are at most the panels walked, and the oldest trace drops out.
+use Rattle.std.specs.Prelude.{Option, None, Some}
 use Prim.Native.Nat.{ℕ, ◌-◌, ◌≤◌}
 use mathlib.Core.Path.{◌≡◌, refl, sym, ap, ◌∙◌, subst}
 use mathlib.Core.Bool.{true}
@@ -14,22 +15,19 @@ use Rattle.lists.proofs.TableLaws.{entries_packed, len_packed}
 use Rattle.handles.specs.Slots.{lookup_of}
 use Rattle.handles.specs.declared.arena.SlotStatus.TheVariants.{Live}
 use Rattle.handles.specs.declared.GenerationalHandle.{GenerationalHandle}
-use Rattle.handles.specs.declared.OptionalHandle.{OptionalHandle}
-use Rattle.handles.specs.declared.OptionalHandle.TheVariants.{None, Some}
 use Rattle.records.specs.declared.error.CompositionError.TheVariants.{InvalidView, StaleView, PortLimit}
 use Rattle.composition_state.specs.declared.registry.CompositionRegistry.{CompositionRegistry}
 use Rattle.records.specs.declared.trace.ArbitrationEvent.{ArbitrationEvent}
 use Rattle.records.specs.declared.trace.CompositionTrace.{CompositionTrace}
-use Rattle.records.specs.declared.trace.Hits.{Hits}
-use Rattle.records.specs.declared.trace.Traces.{Traces}
+use Rattle.records.specs.Traces.{Hits, Traces, hits, traces, deliveries}
 use Rattle.composition_state.specs.Damage.{damage_refusal, trace_sound, traces_sound}
 use Rattle.records.specs.Layers.{layers}
-use Rattle.records.specs.Traces.{hits, traces, deliveries}
 use Rattle.records.specs.Views.{view_at, view_refusal}
 use Rattle.view_panels.specs.Panels.{Panel, panel_in, panels_in}
 use Rattle.composition_state.proofs.SettleLaws.{then_last, if_accepted}
 use Rattle.composition_arbitration.specs.declared.walk.Verdict.{Verdict}
 use Rattle.composition_arbitration.specs.declared.walk.Walked.{Walked}
+use Rattle.composition_shortcuts.specs.Resolve.{resolved_outcome, resolved_panel}
 use Rattle.composition_arbitration.specs.Arbitration.{own_hits, hits_refusal, resolution, alone, or_alone, walk_over, walk_in, arbitration, next_revision, arbitrate_refusal, trace_of, concluded, arbitrated}
 use Rattle.composition_arbitration.specs.Layers.{delivers, consumes, verdict_of, until_consumed, walked, deliveries_of, walk_of}
 use Rattle.composition_arbitration.specs.Targets.{chosen}
@@ -76,7 +74,7 @@ alone_few : (h : GenerationalHandle) → (alone h).deliveries.len ≤ 16
 unfolding alone
 alone_few h = subst (λ (n : ℕ). n ≤ 16) (sym (len_packed deliveries _)) (omega arith)
 
-or_few : (o : OptionalHandle) (w : Walked) → w.deliveries.len ≤ 16 → (or_alone o w).deliveries.len ≤ 16
+or_few : (o : Option GenerationalHandle) (w : Walked) → w.deliveries.len ≤ 16 → (or_alone o w).deliveries.len ≤ 16
 or_few (Some h) w l = alone_few h
 or_few None w l = l
 
@@ -96,12 +94,12 @@ module _ (r : CompositionRegistry) (p : Parts r) (view : GenerationalHandle) (ev
 
   pub arbitrate : Parts (arbitrated r view event h).registry
   unfolding arbitrated concluded
-  arbitrate = keeps (arbitrate_refusal r view (own_hits event h) (resolution r view event).outcome) r _ p (λ a.
+  arbitrate = keeps (arbitrate_refusal r view (own_hits event h) (resolved_outcome (resolution r view event))) r _ p (λ a.
       let a₁ = then_last (damage_refusal r) _ a in
       let live = status_live (lookup_of r.views.arena view) InvalidView StaleView (then_first (view_refusal r.views view) _ a₁) in
       let few = if_accepted (ltb 16 (own_hits event h).len) PortLimit (then_first (hits_refusal (own_hits event h)) _ (then_last (view_refusal r.views view) _ a₁)) in
       traces_changed r p _ (traced_sound r.limits.max_trace_entries r.traces (trace_of (next_revision r.revision) view event (own_hits event h) (arbitration r view event h))
       (bounds r p).some_trace
       (and_both (le-leb (own_hits event h).len 16 (ltb-false 16 (own_hits event h).len few))
-      (le-leb (arbitration r view event h).deliveries.len 16 (or_few (resolution r view event).surface (walk_in r view event (own_hits event h)) (walk_in_few live))))
+      (le-leb (arbitration r view event h).deliveries.len 16 (or_few (resolved_panel (resolution r view event)) (walk_in r view event (own_hits event h)) (walk_in_few live))))
       p.traces))

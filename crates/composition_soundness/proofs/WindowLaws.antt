@@ -26,14 +26,13 @@ use Rattle.handles.proofs.HandleLaws.{handles}
 use Rattle.handles.proofs.LookupLaws.{live_facts}
 use Rattle.records.specs.declared.error.CompositionError.TheVariants.{Capacity, WindowInUse, InvalidWindow, StaleWindow}
 use Rattle.composition_state.specs.declared.registry.CompositionRegistry.{CompositionRegistry}
-use Rattle.records.specs.declared.surface.SurfaceTable.{SurfaceTable}
+use Rattle.records.specs.Surfaces.{SurfaceTable}
 use Rattle.records.specs.declared.view.ViewRecord.{ViewRecord}
-use Rattle.records.specs.declared.view.ViewTable.{ViewTable}
+use Rattle.records.specs.Views.{ViewTable, fresh_view, no_view, view_at, view_slots, views_with}
 use Rattle.composition_state.specs.Damage.{damage_refusal}
 use Rattle.records.specs.Errors.{refusal_if}
 use Rattle.records.specs.Layers.{layers, itself, layer_lt, is_layer_of}
 use Rattle.composition_state.specs.Registry.{with_windows, with_views, window_refusal}
-use Rattle.records.specs.Views.{fresh_view, no_view, view_at, view_slots, views_with}
 use Rattle.composition_state.proofs.SettleLaws.{then_last, if_accepted}
 use Rattle.composition_panels.specs.Windows.{create_window_refusal, new_window, create_window, stands_in, is_window_in_use, close_window_refusal, close_window, create_view_refusal, new_view, create_view, close_view_refusal, close_view}
 use Rattle.composition_soundness.proofs.CaseLaws.{then_first, status_live, by_handle}

@@ -1,19 +1,18 @@
 -- RULES.md, Damage: 42 is answered to a damaged registry. No call leads from a registry that the damage test accepts to
 -- one that it rejects, whatever it answers, and none answers 42 to it.
-use Rattle.std.specs.Prelude.{ℕ, ◌≡◌, true, length}
+use Rattle.std.specs.Prelude.{ℕ, ◌≡◌, true, length, Ok}
 use Rattle.handles.specs.declared.arena.Arena.{Arena}
 use Rattle.handles.specs.declared.GenerationalHandle.{GenerationalHandle}
-use Rattle.records.specs.declared.error.Outcome.{Outcome}
-use Rattle.records.specs.declared.error.Outcome.TheVariants.{Accepted}
-use Rattle.records.specs.Errors.{number_of}
+use Rattle.records.specs.Errors.{number_of, Outcome}
 use Rattle.composition_state.specs.declared.registry.CompositionLimits.{CompositionLimits}
 use Rattle.composition_state.specs.declared.registry.CompositionRegistry.{CompositionRegistry}
 use Rattle.records.specs.declared.trace.ArbitrationEvent.{ArbitrationEvent}
-use Rattle.records.specs.declared.trace.Hits.{Hits}
+use Rattle.records.specs.Traces.{Hits}
 use Rattle.composition_state.specs.Damage.{is_sound}
 use Rattle.composition_state.specs.Start.{started}
 use Rattle.composition_input.specs.Captures.{release_device_pointer_captures}
-use Rattle.composition_shortcuts.specs.declared.register.Registrations.{Registrations}
+use Rattle.composition_shortcuts.specs.Registrations.{Registrations}
+use Rattle.composition_state.specs.Registry.{outcome_of}
 use Rattle.composition_arbitration.specs.Arbitration.{arbitrated}
 use Rattle.composition_close.specs.Close.{close_surface}
 use Rattle.composition_close.specs.Shutdown.{shutdown_of}
@@ -48,21 +47,21 @@ pub record Kept (o : Outcome) (r : CompositionRegistry) : Type 0 where
 pub record SoundnessClaims : Type 0 where
   -- an accepted start and added start
   pub start : (session : GenerationalHandle) (epoch : ℕ) (limits : CompositionLimits) (revision generation : ℕ)
-      → (started session epoch limits revision generation).outcome ≡ Accepted
+      → (started session epoch limits revision generation).outcome ≡ Ok tt
       → Undamaged (started session epoch limits revision generation).registry
   pub panel : (r : CompositionRegistry) → Undamaged r → (call : PanelCall)
       → Kept (panel_step r call).outcome (panel_step r call).registry
   pub input : (r : CompositionRegistry) → Undamaged r → (call : InputCall)
       → Kept (input_step r call).outcome (input_step r call).registry
   pub release_device : (r : CompositionRegistry) → Undamaged r → (device generation : ℕ)
-      → Kept (release_device_pointer_captures r device generation).outcome
+      → Kept (outcome_of (release_device_pointer_captures r device generation))
       (release_device_pointer_captures r device generation).registry
   pub shortcut : (r : CompositionRegistry) → Undamaged r → (call : ShortcutCall) (l : Registrations)
       → Kept (shortcut_step r call l).outcome (shortcut_step r call l).registry
   pub arbitrate : (r : CompositionRegistry) → Undamaged r
       → (view : GenerationalHandle) (event : ArbitrationEvent) (hits : Hits)
-      → Kept (arbitrated r view event hits).outcome (arbitrated r view event hits).registry
+      → Kept (outcome_of (arbitrated r view event hits)) (arbitrated r view event hits).registry
   -- also where 22 leaves the panel out of its view
   pub close_surface_lem : (r : CompositionRegistry) → Undamaged r → (h : GenerationalHandle)
-      → Kept (close_surface r h).outcome (close_surface r h).registry
-  pub shutdown : (r : CompositionRegistry) → Undamaged r → Kept (shutdown_of r).outcome (shutdown_of r).registry
+      → Kept (outcome_of (close_surface r h)) (close_surface r h).registry
+  pub shutdown : (r : CompositionRegistry) → Undamaged r → Kept (outcome_of (shutdown_of r)) (shutdown_of r).registry

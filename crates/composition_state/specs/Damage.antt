@@ -11,19 +11,16 @@ use Rattle.handles.specs.declared.arena.Arena.{Arena}
 use Rattle.maps.specs.MapTables.{keys_rise}
 use Rattle.maps.specs.Captures.{captures, capture_key}
 use Rattle.records.specs.declared.error.CompositionError.TheVariants.{Damaged}
-use Rattle.records.specs.declared.error.Outcome.{Outcome}
 use Rattle.composition_state.specs.declared.registry.CompositionLimits.{CompositionLimits}
 use Rattle.composition_state.specs.declared.registry.CompositionRegistry.{CompositionRegistry}
-use Rattle.records.specs.declared.surface.SurfaceTable.{SurfaceTable}
+use Rattle.records.specs.Surfaces.{SurfaceTable}
 use Rattle.records.specs.declared.trace.CompositionTrace.{CompositionTrace}
-use Rattle.records.specs.declared.trace.Traces.{Traces}
+use Rattle.records.specs.Traces.{Traces, traces}
 use Rattle.records.specs.declared.view.ViewRecord.{ViewRecord}
-use Rattle.records.specs.declared.view.ViewTable.{ViewTable}
-use Rattle.records.specs.Errors.{refusal_if}
+use Rattle.records.specs.Views.{ViewTable, view_at}
+use Rattle.records.specs.Errors.{refusal_if, Outcome}
 use Rattle.records.specs.Layers.{layers, is_layer_of, layers_rise, is_live}
 use Rattle.composition_state.specs.Start.{any_zero, any_over_port}
-use Rattle.records.specs.Traces.{traces}
-use Rattle.records.specs.Views.{view_at}
 
 -- a stored limit or first generation is one the start refuses
 abbrev pub limits_sound : CompositionLimits → ℕ → Bool
@@ -56,7 +53,7 @@ unfoldable pub view_sound : Arena → SurfaceTable → ℕ → GenerationalHandl
 view_sound windows surfaces limit view v =
     is_live (lookup_of windows v.window)
     && (layers_sound surfaces limit view v
-    && (leb v.pointer_captures.len 32
+    && (leb v.pointer_captures.table.len 32
     && keys_rise captures capture_key v.pointer_captures))
 
 -- the handle of the view in a slot

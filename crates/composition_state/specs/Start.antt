@@ -1,16 +1,15 @@
 -- RULES.md, Start: 2 (invalid session or epoch 0), 1 (a limit is 0), 41; and the registry that it makes.
-use Rattle.std.specs.Prelude.{ℕ, Bool, cond, not, ◌||◌, [], replicate, ltb, eqb}
+use Rattle.std.specs.Result.{result_and}
+use Rattle.std.specs.Prelude.{ℕ, Bool, cond, not, ◌||◌, [], replicate, ltb, eqb, is_ok, Ok}
 use Rattle.lists.specs.Tables.{packed}
 use Rattle.handles.specs.Handles.{handle_of, is_valid}
 use Rattle.handles.specs.Slots.{empty_arena}
 use Rattle.handles.specs.declared.GenerationalHandle.{GenerationalHandle}
 use Rattle.records.specs.declared.error.CompositionError.TheVariants.{InvalidConfig, InvalidOwner, PortLimit}
-use Rattle.records.specs.declared.error.Outcome.{Outcome}
-use Rattle.records.specs.declared.error.Outcome.TheVariants.{Accepted}
 use Rattle.composition_state.specs.declared.registry.CompositionLimits.{CompositionLimits}
 use Rattle.composition_state.specs.declared.registry.CompositionRegistry.{CompositionRegistry}
-use Rattle.composition_state.specs.declared.registry.Changed.{Changed}
-use Rattle.records.specs.Errors.{then_refusal, refusal_if, is_accepted}
+use Rattle.composition_state.specs.Registry.{Changed}
+use Rattle.records.specs.Errors.{refusal_if, Outcome}
 use Rattle.records.specs.Surfaces.{no_surface}
 use Rattle.records.specs.Views.{no_view}
 use Rattle.records.specs.Shortcuts.{shortcuts}
@@ -44,8 +43,8 @@ is_misconfigured limits generation = any_zero limits || (any_over_u32 limits || 
 
 abbrev pub start_refusal : GenerationalHandle → ℕ → CompositionLimits → ℕ → Outcome
 start_refusal session epoch limits generation =
-    then_refusal (refusal_if (is_unowned session epoch) InvalidOwner)
-    (then_refusal (refusal_if (is_misconfigured limits generation) InvalidConfig)
+    result_and (refusal_if (is_unowned session epoch) InvalidOwner)
+    (result_and (refusal_if (is_misconfigured limits generation) InvalidConfig)
     (refusal_if (any_over_port limits) PortLimit))
 
 -- no window, view or panel, no registration, no trace
@@ -78,6 +77,6 @@ unusable_registry =
 
 abbrev pub started : GenerationalHandle → ℕ → CompositionLimits → ℕ → ℕ → Changed
 started session epoch limits revision generation =
-    cond (is_accepted (start_refusal session epoch limits generation))
-    (answered Accepted (fresh_registry session epoch limits revision generation))
+    cond (is_ok (start_refusal session epoch limits generation))
+    (answered (Ok tt) (fresh_registry session epoch limits revision generation))
     (answered (start_refusal session epoch limits generation) unusable_registry)

@@ -1,16 +1,14 @@
 // The damage test, 42: whether a registry that is handed in is one that calls could have left.
-ghost use Rattle.std.specs.Prelude.{◌≡◌, cond, true, ◌≤◌, ◌<◌, length};
-ghost use Rattle.lists.specs.Tables.{entries_of};
-ghost use Rattle.records.specs.Traces.{traces};
-ghost use Rattle.handles.specs.Handles.{handle_of};
-ghost use Rattle.composition_state.specs.Damage.{limits_sound, arenas_sound, trace_sound, traces_sound, layers_sound, view_sound, views_sound, is_sound, damage_refusal};
+ghost use Rattle.std.specs.Prelude.{◌≡◌, ◌≤◌, ◌<◌};
+ghost use Rattle.lists.specs.Lists.{all};
+ghost use Rattle.composition_state.specs.Damage.{limits_sound, arenas_sound, trace_sound, traces_sound, layers_sound, view_sound, slot_sound, views_sound, is_sound, damage_refusal};
 
 use crate::registry::{CompositionLimits, CompositionRegistry};
 use handles::GenerationalHandle;
-use handles::arena::{Arena, Slot, SlotStatus};
+use handles::arena::{Arena, SlotStatus};
 use handles::well_formed::is_well_formed;
-use lists::both;
 use records::error::{CompositionError, Outcome};
+use records::layers::{are_layers_of, are_rising};
 use records::surface::SurfaceTable;
 use records::trace::{CompositionTrace, Traces};
 use records::view::{ViewRecord, ViewTable};
@@ -18,15 +16,10 @@ use records::view::{ViewRecord, ViewTable};
 fn are_limits_sound(limits: CompositionLimits, first_generation: u32) -> bool
     ensures { result ≡ limits_sound limits first_generation }
 {
-    if crate::start::any_zero(limits) {
-        return false;
-    }
-    if crate::start::any_over_port(limits) {
-        return false;
-    }
-    first_generation != 0
+    !crate::start::any_zero(limits) && !crate::start::any_over_port(limits) && first_generation != 0
 }
 
+#[tactic(auto, unfolding(crate::specs::Damage::arenas_sound))]
 fn are_arenas_sound(
     limits: CompositionLimits,
     windows: Arena,
@@ -35,45 +28,31 @@ fn are_arenas_sound(
 ) -> bool
     ensures { result ≡ arenas_sound limits windows views surfaces }
 {
-    if is_well_formed(windows, limits.max_windows as usize) {
-        if is_well_formed(views, limits.max_views as usize) {
-            return is_well_formed(surfaces, limits.max_surfaces as usize);
-        }
-    }
-    false
+    is_well_formed(windows, limits.max_windows as usize)
+        && is_well_formed(views, limits.max_views as usize)
+        && is_well_formed(surfaces, limits.max_surfaces as usize)
 }
 
 fn is_trace_sound(trace: CompositionTrace) -> bool
     ensures { result ≡ trace_sound trace }
 {
-    both(trace.hits.len <= 16, trace.deliveries.len <= 16)
+    trace.hits.len <= 16 && trace.deliveries.len <= 16
 }
 
-fn count_traces(stored: Traces) -> usize
-    ensures { result ≡ length (entries_of traces stored) }
+fn all_sound(traces: &[CompositionTrace]) -> bool
+    ensures { result ≡ all trace_sound traces.now }
 {
-    let n = stored.len;
-    if n < 32 {
-        return n;
-    }
-    32
+    traces.iter().all(|trace| is_trace_sound(*trace))
 }
 
+#[tactic(auto, unfolding(crate::specs::Damage::traces_sound))]
 fn are_traces_sound(limit: u64, stored: Traces) -> bool
     ensures { result ≡ traces_sound limit stored }
 {
-    let n = count_traces(stored);
-    let mut ok = true;
-    let mut i = 0;
-    while i < n {
-        let trace = stored.items[i];
-        let sound = is_trace_sound(trace);
-        ok = both(ok, sound);
-        i += 1;
-    }
-    both((stored.len as u64) <= limit, ok)
+    stored.len as u64 <= limit && all_sound(stored.entries())
 }
 
+#[tactic(auto, unfolding(crate::specs::Damage::layers_sound))]
 fn are_layers_sound(
     surfaces: SurfaceTable,
     limit: u64,
@@ -82,13 +61,12 @@ fn are_layers_sound(
 ) -> bool
     ensures { result ≡ layers_sound surfaces limit view v }
 {
-    let records = surfaces.records;
-    let within = (v.surfaces.len as u64) <= limit;
-    let of_view = v.surfaces.are_of(surfaces, view);
-    let rising = v.surfaces.is_rising(records);
-    both(within, both(of_view, rising))
+    v.surfaces.len as u64 <= limit
+        && are_layers_of(v.surfaces, surfaces, view)
+        && are_rising(v.surfaces, &surfaces.records)
 }
 
+#[tactic(auto, unfolding(crate::specs::Damage::view_sound))]
 fn is_view_sound(
     windows: Arena,
     surfaces: SurfaceTable,
@@ -98,16 +76,10 @@ fn is_view_sound(
 ) -> bool
     ensures { result ≡ view_sound windows surfaces limit view v }
 {
-    match handles::arena::lookup(windows, v.window) {
-        SlotStatus::Live => {
-            let layered = are_layers_sound(surfaces, limit, view, v);
-            let within = v.pointer_captures.len <= 32;
-            let rising = v.pointer_captures.is_rising();
-            both(layered, both(within, rising))
-        }
-        SlotStatus::Invalid => false,
-        SlotStatus::Stale => false,
-    }
+    matches!(handles::arena::lookup(windows, v.window), SlotStatus::Live)
+        && are_layers_sound(surfaces, limit, view, v)
+        && v.pointer_captures.table.len <= 32
+        && v.pointer_captures.is_rising()
 }
 
 // A slot that is not filled holds no view.
@@ -115,67 +87,61 @@ fn is_slot_sound(
     windows: Arena,
     surfaces: SurfaceTable,
     limit: u64,
-    slot: Slot,
+    views: ViewTable,
     i: usize,
-    v: ViewRecord,
 ) -> bool
-    requires { i < 64 }
-    ensures { result ≡ cond slot.filled (view_sound windows surfaces limit (handle_of i slot.generation) v)
-        true }
+    requires { i < 16 }
+    ensures { result ≡ slot_sound windows surfaces limit views i }
 {
-    if slot.filled {
-        let view = GenerationalHandle {
-            index: i as u32,
-            generation: slot.generation,
-        };
-        return is_view_sound(windows, surfaces, limit, view, v);
+    let slot = handles::arena::slot_at(views.arena.slots, i);
+    if !slot.filled {
+        return true;
     }
-    true
+    let view = GenerationalHandle {
+        index: i as u32,
+        generation: slot.generation,
+    };
+    is_view_sound(windows, surfaces, limit, view, views.record(view))
 }
 
+#[tactic(auto, unfolding(crate::specs::Damage::views_sound))]
 fn are_views_sound(windows: Arena, surfaces: SurfaceTable, limit: u64, views: ViewTable) -> bool
     requires { views.arena.used ≤ 16 }
     ensures { result ≡ views_sound windows surfaces limit views }
 {
-    let arena = views.arena;
-    let slots = arena.slots;
-    let records = views.records;
-    let n = arena.used;
-    let mut ok = true;
-    let mut i: usize = 0;
-    while i < n {
-        let sound = is_slot_sound(windows, surfaces, limit, slots[i], i, records[i]);
-        ok = both(ok, sound);
-        i += 1;
+    for i in 0..views.arena.used {
+        if !is_slot_sound(windows, surfaces, limit, views, i) {
+            return false;
+        }
     }
-    ok
+    true
 }
 
 impl CompositionRegistry {
     // Whether a registry passes the damage test; one that does not is refused 42 by every call.
+    #[tactic(auto, using(crate::proofs::DamageLaws::views_within), unfolding(crate::specs::Damage::is_sound))]
     pub fn is_sound(self) -> bool
         ensures { result ≡ is_sound self }
     {
-        if are_limits_sound(self.limits, self.first_generation) {
-            if are_arenas_sound(
-                self.limits,
-                self.windows,
-                self.views.arena,
-                self.surfaces.arena,
-            ) {
-                if self.shortcuts.len <= 256 {
-                    if are_traces_sound(self.limits.max_trace_entries, self.traces) {
-                        return are_views_sound(
-                            self.windows,
-                            self.surfaces,
-                            self.limits.max_surfaces_per_view,
-                            self.views,
-                        );
-                    }
-                }
-            }
+        if !are_limits_sound(self.limits, self.first_generation) {
+            return false;
         }
-        false
+        if !are_arenas_sound(
+            self.limits,
+            self.windows,
+            self.views.arena,
+            self.surfaces.arena,
+        ) {
+            return false;
+        }
+        self.shortcuts.len <= 256
+            && are_traces_sound(self.limits.max_trace_entries, self.traces)
+            && are_views_sound(
+                self.windows,
+                self.surfaces,
+                self.limits.max_surfaces_per_view,
+                self.views,
+            )
     }
 
     // What every call refuses first.

@@ -1,6 +1,6 @@
 // The registry: one value that holds all windows, views and panels.
 ghost use Rattle.std.specs.Prelude.{◌≡◌};
-ghost use Rattle.composition_state.specs.Registry.{with_windows, with_views, with_surfaces, with_shortcuts, with_traces, window_refusal, conflict_refusal, advanced, settled};
+ghost use Rattle.composition_state.specs.Registry.{with_windows, with_views, with_surfaces, with_shortcuts, with_traces, window_refusal, conflict_refusal, advanced, settled, answered_with, outcome_of};
 
 use handles::GenerationalHandle;
 use handles::arena::Arena;
@@ -34,11 +34,33 @@ pub struct CompositionRegistry {
     pub traces: Traces,
 }
 
-// The answer of a call whose only values are the refusal and the registry.
+// The answer of a call: what it made where it is accepted, else the refusal, and the registry after it.
 #[derive(Clone, Copy)]
-pub struct Changed {
-    pub outcome: Outcome,
+pub struct Answered<T: Copy> {
+    pub outcome: Result<T, CompositionError>,
     pub registry: CompositionRegistry,
+}
+
+// The answer of a call that makes nothing.
+pub type Changed = Answered<()>;
+
+impl<T: Copy> Answered<T> {
+    // The answer of a change that made a value.
+    pub fn with(value: T, changed: Changed) -> Self
+        ensures { result ≡ answered_with value changed }
+    {
+        Answered {
+            outcome: changed.outcome.and(Ok(value)),
+            registry: changed.registry,
+        }
+    }
+
+    // Whether it is accepted, or why it is refused, without the value.
+    pub fn refusal(self) -> Outcome
+        ensures { result ≡ outcome_of self }
+    {
+        self.outcome.and(Ok(()))
+    }
 }
 
 // What a handle that names no live window refuses.
@@ -62,59 +84,47 @@ impl CompositionRegistry {
     pub fn with_windows(self, windows: Arena) -> Self
         ensures { result ≡ with_windows windows self }
     {
-        let mut next = self;
-        next.windows = windows;
-        next
+        Self { windows, ..self }
     }
 
     pub fn with_views(self, views: ViewTable) -> Self
         ensures { result ≡ with_views views self }
     {
-        let mut next = self;
-        next.views = views;
-        next
+        Self { views, ..self }
     }
 
     pub fn with_surfaces(self, surfaces: SurfaceTable) -> Self
         ensures { result ≡ with_surfaces surfaces self }
     {
-        let mut next = self;
-        next.surfaces = surfaces;
-        next
+        Self { surfaces, ..self }
     }
 
     pub fn with_shortcuts(self, shortcuts: Shortcuts) -> Self
         ensures { result ≡ with_shortcuts shortcuts self }
     {
-        let mut next = self;
-        next.shortcuts = shortcuts;
-        next
+        Self { shortcuts, ..self }
     }
 
     pub fn with_traces(self, traces: Traces) -> Self
         ensures { result ≡ with_traces traces self }
     {
-        let mut next = self;
-        next.traces = traces;
-        next
+        Self { traces, ..self }
     }
 
     // The registry after a change: the revision rises by 1, or 21 follows where it cannot.
+    #[tactic(auto, unfolding(crate::specs::Registry::advanced))]
     pub fn advance(self) -> Changed
         ensures { result ≡ advanced self }
     {
-        let revision = self.revision;
-        if revision == u64::MAX {
-            return Changed {
-                outcome: Outcome::Refused(CompositionError::RevisionExhausted),
+        match self.revision.checked_add(1) {
+            Some(revision) => Changed {
+                outcome: Ok(()),
+                registry: Self { revision, ..self },
+            },
+            None => Changed {
+                outcome: Err(CompositionError::RevisionExhausted),
                 registry: self,
-            };
-        }
-        let mut next = self;
-        next.revision = revision + 1;
-        Changed {
-            outcome: Outcome::Accepted,
-            registry: next,
+            },
         }
     }
 
@@ -123,9 +133,9 @@ impl CompositionRegistry {
         ensures { result ≡ settled refusal self changed }
     {
         match refusal {
-            Outcome::Accepted => changed.advance(),
-            Outcome::Refused(error) => Changed {
-                outcome: Outcome::Refused(error),
+            Ok(()) => changed.advance(),
+            Err(error) => Changed {
+                outcome: Err(error),
                 registry: self,
             },
         }

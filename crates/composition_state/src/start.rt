@@ -5,80 +5,52 @@ ghost use Rattle.composition_state.specs.Start.{any_zero, any_over_u32, any_over
 use crate::registry::{Changed, CompositionLimits, CompositionRegistry};
 use handles::GenerationalHandle;
 use handles::arena::Arena;
-use records::error::{CompositionError, Outcome};
+use lists::table::Blank;
+use records::error::{CompositionError, Outcome, refuse_if};
 use records::shortcut::Shortcuts;
-use records::surface::SurfaceTable;
+use records::surface::{SurfaceRecord, SurfaceTable};
 use records::trace::Traces;
 use records::view::{ViewRecord, ViewTable};
 
 pub fn any_zero(limits: CompositionLimits) -> bool
     ensures { result ≡ any_zero limits }
 {
-    if limits.max_windows == 0 {
-        return true;
-    }
-    if limits.max_views == 0 {
-        return true;
-    }
-    if limits.max_surfaces == 0 {
-        return true;
-    }
-    if limits.max_surfaces_per_view == 0 {
-        return true;
-    }
-    limits.max_trace_entries == 0
+    limits.max_windows == 0
+        || limits.max_views == 0
+        || limits.max_surfaces == 0
+        || limits.max_surfaces_per_view == 0
+        || limits.max_trace_entries == 0
 }
 
 // Slots are numbered by a u32.
 fn any_over_u32(limits: CompositionLimits) -> bool
     ensures { result ≡ any_over_u32 limits }
 {
-    if 4294967295 < limits.max_windows {
-        return true;
-    }
-    if 4294967295 < limits.max_views {
-        return true;
-    }
-    4294967295 < limits.max_surfaces
+    4294967295 < limits.max_windows
+        || 4294967295 < limits.max_views
+        || 4294967295 < limits.max_surfaces
 }
 
 pub fn any_over_port(limits: CompositionLimits) -> bool
     ensures { result ≡ any_over_port limits }
 {
-    if 8 < limits.max_windows {
-        return true;
-    }
-    if 16 < limits.max_views {
-        return true;
-    }
-    if 64 < limits.max_surfaces {
-        return true;
-    }
-    if 16 < limits.max_surfaces_per_view {
-        return true;
-    }
-    32 < limits.max_trace_entries
+    8 < limits.max_windows
+        || 16 < limits.max_views
+        || 64 < limits.max_surfaces
+        || 16 < limits.max_surfaces_per_view
+        || 32 < limits.max_trace_entries
 }
 
 fn is_unowned(session: GenerationalHandle, session_epoch: u64) -> bool
     ensures { result ≡ is_unowned session session_epoch }
 {
-    if session.is_valid() {
-        return session_epoch == 0;
-    }
-    true
+    !session.is_valid() || session_epoch == 0
 }
 
 fn is_misconfigured(limits: CompositionLimits, first_generation: u32) -> bool
     ensures { result ≡ is_misconfigured limits first_generation }
 {
-    if any_zero(limits) {
-        return true;
-    }
-    if any_over_u32(limits) {
-        return true;
-    }
-    first_generation == 0
+    any_zero(limits) || any_over_u32(limits) || first_generation == 0
 }
 
 fn start_refusal(
@@ -89,19 +61,19 @@ fn start_refusal(
 ) -> Outcome
     ensures { result ≡ start_refusal session session_epoch limits first_generation }
 {
-    let owner = records::error::refuse_if(
+    refuse_if(
         is_unowned(session, session_epoch),
         CompositionError::InvalidOwner,
-    );
-    let config = records::error::refuse_if(
+    )?;
+    refuse_if(
         is_misconfigured(limits, first_generation),
         CompositionError::InvalidConfig,
-    );
-    let port = records::error::refuse_if(any_over_port(limits), CompositionError::PortLimit);
-    owner.then(config.then(port))
+    )?;
+    refuse_if(any_over_port(limits), CompositionError::PortLimit)
 }
 
 // A registry with no window, view or panel.
+#[tactic(auto, unfolding(crate::specs::Start::fresh_registry, lists::specs::Tables::packed))]
 fn fresh(
     session: GenerationalHandle,
     session_epoch: u64,
@@ -112,22 +84,6 @@ fn fresh(
     ensures { result ≡ fresh_registry session session_epoch limits revision first_generation }
 {
     let arena = Arena::new();
-    let none = GenerationalHandle {
-        index: 0,
-        generation: 0,
-    };
-    let view = ViewRecord::new(none);
-    let views = ViewTable {
-        arena,
-        records: [view; 16],
-    };
-    let surface = records::surface::blank();
-    let surfaces = SurfaceTable {
-        arena,
-        records: [surface; 64],
-    };
-    let shortcuts = Shortcuts::new();
-    let traces = Traces::new();
     CompositionRegistry {
         session,
         session_epoch,
@@ -135,10 +91,16 @@ fn fresh(
         first_generation,
         revision,
         windows: arena,
-        views,
-        surfaces,
-        shortcuts,
-        traces,
+        views: ViewTable {
+            arena,
+            records: [ViewRecord::BLANK; 16],
+        },
+        surfaces: SurfaceTable {
+            arena,
+            records: [SurfaceRecord::BLANK; 64],
+        },
+        shortcuts: Shortcuts::new(),
+        traces: Traces::new(),
     }
 }
 
@@ -146,10 +108,6 @@ fn fresh(
 fn unusable() -> CompositionRegistry
     ensures { result ≡ unusable_registry }
 {
-    let none = GenerationalHandle {
-        index: 0,
-        generation: 0,
-    };
     let limits = CompositionLimits {
         max_windows: 0,
         max_views: 0,
@@ -157,7 +115,7 @@ fn unusable() -> CompositionRegistry
         max_surfaces_per_view: 0,
         max_trace_entries: 0,
     };
-    fresh(none, 0, limits, 0, 0)
+    fresh(GenerationalHandle::ZERO, 0, limits, 0, 0)
 }
 
 impl CompositionRegistry {
@@ -171,23 +129,19 @@ impl CompositionRegistry {
     ) -> Changed
         ensures { result ≡ started session session_epoch limits first_revision first_generation }
     {
-        let refusal = start_refusal(session, session_epoch, limits, first_generation);
-        if refusal.is_accepted() {
-            return Changed {
-                outcome: Outcome::Accepted,
-                registry: fresh(
-                    session,
-                    session_epoch,
-                    limits,
-                    first_revision,
-                    first_generation,
-                ),
-            };
-        }
-        Changed {
-            outcome: refusal,
-            registry: unusable(),
-        }
+        let outcome = start_refusal(session, session_epoch, limits, first_generation);
+        let registry = if outcome.is_ok() {
+            fresh(
+                session,
+                session_epoch,
+                limits,
+                first_revision,
+                first_generation,
+            )
+        } else {
+            unusable()
+        };
+        Changed { outcome, registry }
     }
 
     // A registry with nothing in it, at revision 0.

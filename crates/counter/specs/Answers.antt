@@ -1,25 +1,20 @@
 -- What a call answers, in parts; what a call does not answer is blank.
-use Rattle.std.specs.Prelude.{[]}
+use Rattle.records.specs.Errors.{Outcome}
+use Rattle.handles.specs.declared.GenerationalHandle.{GenerationalHandle}
+use Rattle.std.specs.Prelude.{[], Option, None, Some}
 use Rattle.lists.specs.Tables.{packed}
-use Rattle.handles.specs.declared.OptionalHandle.{OptionalHandle}
-use Rattle.handles.specs.declared.OptionalHandle.TheVariants as handle
-use Rattle.records.specs.declared.error.Outcome.{Outcome}
-use Rattle.release_lists.specs.declared.captures.CaptureList.{CaptureList}
-use Rattle.composition_input.specs.declared.answer.OptionalInputState.TheVariants as state
-use Rattle.release_lists.specs.Captures.{capture_list}
+use Rattle.release_lists.specs.Captures.{CaptureList, capture_list}
 use Rattle.composition_arbitration.specs.declared.arbitrate.ArbitrationResult.{ArbitrationResult}
 use Rattle.composition_close.specs.declared.answer.CompositionShutdownReport.{CompositionShutdownReport}
 use Rattle.composition_close.specs.declared.answer.SurfaceCloseReport.{SurfaceCloseReport}
 use Rattle.composition_close.specs.Reports.{no_report as not_closed, no_shutdown}
-use Rattle.release_lists.specs.declared.releases.Releases.{Releases}
-use Rattle.release_lists.specs.Releases.{releases}
+use Rattle.release_lists.specs.Releases.{Releases, releases}
 use Rattle.input_releases.specs.declared.answer.PlatformInputRoutingReport.{PlatformInputRoutingReport}
 use Rattle.input_releases.specs.declared.answer.RouteKind.TheVariants as kind
 use Rattle.input_releases.specs.Answers.{no_result, no_report}
 use Rattle.calls.specs.declared.shown.Shown.{Shown}
 use Rattle.calls.specs.declared.shown.Shown.TheVariants as shown
-use Rattle.input_events.specs.declared.error.RouterOutcome.{RouterOutcome}
-use Rattle.input_events.specs.RouterErrors.{from_composition}
+use Rattle.input_events.specs.RouterErrors.{from_composition, RouterOutcome}
 use Rattle.counter.specs.declared.answer.Answer.{Answer}
 use Rattle.counter.specs.declared.answer.Listed.{Listed}
 
@@ -43,7 +38,7 @@ arbitration_alone x =
       kind = kind.Nothing;
       arbitration = x;
       synthesized_releases = packed releases [];
-      view_release = state.None;
+      view_release = None;
       composition_revision = 0;
     }
 
@@ -53,12 +48,12 @@ releases_alone l =
       kind = kind.Nothing;
       arbitration = no_result;
       synthesized_releases = l;
-      view_release = state.None;
+      view_release = None;
       composition_revision = 0;
     }
 
 -- the answer of a call that lists nothing and has no report: one on the registry, or one that alters nothing
-abbrev pub shown_answer : Outcome → OptionalHandle → Shown → Answer
+abbrev pub shown_answer : Outcome → Option GenerationalHandle → Shown → Answer
 shown_answer o h s =
     record { outcome = from_composition o; handle = h; shown = s; report = no_report; listed = nothing_listed }
 
@@ -67,7 +62,7 @@ abbrev pub listing_answer : Outcome → Listed → Answer
 listing_answer o l =
     record {
       outcome = from_composition o;
-      handle = handle.None;
+      handle = None;
       shown = shown.Nothing;
       report = no_report;
       listed = l;
@@ -76,4 +71,4 @@ listing_answer o l =
 -- of an arbitration, a routed event, a router release
 abbrev pub report_answer : RouterOutcome → PlatformInputRoutingReport → Answer
 report_answer o x =
-    record { outcome = o; handle = handle.None; shown = shown.Nothing; report = x; listed = nothing_listed }
+    record { outcome = o; handle = None; shown = shown.Nothing; report = x; listed = nothing_listed }

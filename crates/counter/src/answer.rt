@@ -1,15 +1,14 @@
-// What a call answers. An enum holds no array, so that one struct has the answers of every call; what a call does not
-// answer is blank.
+// What a call answers. One struct has the answers of every call, so that whoever reads one part of it needs no cases;
+// what a call does not answer is blank.
 ghost use Rattle.std.specs.Prelude.{◌≡◌};
 ghost use Rattle.counter.specs.Answers.{nothing_listed, captures_listed, close_listed, shutdown_listed, arbitration_alone, releases_alone, shown_answer, listing_answer, report_answer};
 
 use calls::shown::Shown;
 use composition_arbitration::arbitrate::ArbitrationResult;
 use composition_close::answer::{CompositionShutdownReport, SurfaceCloseReport};
-use composition_input::answer::OptionalInputState;
-use handles::OptionalHandle;
+use handles::GenerationalHandle;
 use input_events::error::{RouterOutcome, from_composition};
-use input_releases::answer::{PlatformInputRoutingReport, RouteKind, no_report, no_result};
+use input_releases::answer::{PlatformInputRoutingReport, no_report};
 use records::error::Outcome;
 use release_lists::captures::CaptureList;
 use release_lists::releases::Releases;
@@ -27,105 +26,88 @@ pub struct Listed {
 #[derive(Clone, Copy)]
 pub struct Answer {
     pub outcome: RouterOutcome,
-    pub handle: OptionalHandle,
+    pub handle: Option<GenerationalHandle>,
     pub shown: Shown,
     pub report: PlatformInputRoutingReport,
     pub listed: Listed,
 }
 
 impl Listed {
+    #[tactic(auto, unfolding(crate::specs::Answers::nothing_listed))]
     pub fn nothing() -> Self
         ensures { result ≡ nothing_listed }
     {
-        let captures = CaptureList::new();
-        let closed = SurfaceCloseReport::blank();
-        let shutdown = CompositionShutdownReport::blank();
         Self {
-            captures,
-            closed,
-            shutdown,
+            captures: CaptureList::new(),
+            closed: SurfaceCloseReport::blank(),
+            shutdown: CompositionShutdownReport::blank(),
         }
     }
 
+    #[tactic(auto, unfolding(crate::specs::Answers::captures_listed, crate::specs::Answers::nothing_listed))]
     pub fn of_captures(captures: CaptureList) -> Self
         ensures { result ≡ captures_listed captures }
     {
-        let closed = SurfaceCloseReport::blank();
-        let shutdown = CompositionShutdownReport::blank();
         Self {
             captures,
-            closed,
-            shutdown,
+            ..Self::nothing()
         }
     }
 
+    #[tactic(auto, unfolding(crate::specs::Answers::close_listed, crate::specs::Answers::nothing_listed))]
     pub fn of_close(closed: SurfaceCloseReport) -> Self
         ensures { result ≡ close_listed closed }
     {
-        let captures = CaptureList::new();
-        let shutdown = CompositionShutdownReport::blank();
         Self {
-            captures,
             closed,
-            shutdown,
+            ..Self::nothing()
         }
     }
 
+    #[tactic(auto, unfolding(crate::specs::Answers::shutdown_listed, crate::specs::Answers::nothing_listed))]
     pub fn of_shutdown(shutdown: CompositionShutdownReport) -> Self
         ensures { result ≡ shutdown_listed shutdown }
     {
-        let captures = CaptureList::new();
-        let closed = SurfaceCloseReport::blank();
         Self {
-            captures,
-            closed,
             shutdown,
+            ..Self::nothing()
         }
     }
 }
 
 // The part of a report that an arbitration answers.
+#[tactic(auto, unfolding(crate::specs::Answers::arbitration_alone))]
 pub fn of_arbitration(arbitration: ArbitrationResult) -> PlatformInputRoutingReport
     ensures { result ≡ arbitration_alone arbitration }
 {
-    let synthesized_releases = Releases::new();
     PlatformInputRoutingReport {
-        kind: RouteKind::Nothing,
         arbitration,
-        synthesized_releases,
-        view_release: OptionalInputState::None,
-        composition_revision: 0,
+        ..no_report()
     }
 }
 
 // The part of a report that a router release answers.
+#[tactic(auto, unfolding(crate::specs::Answers::releases_alone))]
 pub fn of_releases(synthesized_releases: Releases) -> PlatformInputRoutingReport
     ensures { result ≡ releases_alone synthesized_releases }
 {
-    let arbitration = no_result();
     PlatformInputRoutingReport {
-        kind: RouteKind::Nothing,
-        arbitration,
         synthesized_releases,
-        view_release: OptionalInputState::None,
-        composition_revision: 0,
+        ..no_report()
     }
 }
 
 impl Answer {
     // The answer of a call that lists nothing and has no report: one on the registry, or one that alters nothing.
-    pub fn of_shown(refusal: Outcome, handle: OptionalHandle, shown: Shown) -> Self
+    pub fn of_shown(refusal: Outcome, handle: Option<GenerationalHandle>, shown: Shown) -> Self
         ensures { result ≡ shown_answer refusal handle shown }
     {
-        let outcome = from_composition(refusal);
-        let report = no_report();
-        let listed = Listed::nothing();
         Self {
-            outcome,
+            outcome: from_composition(refusal),
             handle,
             shown,
-            report,
-            listed,
+            report: no_report(),
+            listed: Listed::nothing(),
         }
     }
 
@@ -133,13 +115,11 @@ impl Answer {
     pub fn of_listing(refusal: Outcome, listed: Listed) -> Self
         ensures { result ≡ listing_answer refusal listed }
     {
-        let outcome = from_composition(refusal);
-        let report = no_report();
         Self {
-            outcome,
-            handle: OptionalHandle::None,
+            outcome: from_composition(refusal),
+            handle: None,
             shown: Shown::Nothing,
-            report,
+            report: no_report(),
             listed,
         }
     }
@@ -148,13 +128,12 @@ impl Answer {
     pub fn of_report(outcome: RouterOutcome, report: PlatformInputRoutingReport) -> Self
         ensures { result ≡ report_answer outcome report }
     {
-        let listed = Listed::nothing();
         Self {
             outcome,
-            handle: OptionalHandle::None,
+            handle: None,
             shown: Shown::Nothing,
             report,
-            listed,
+            listed: Listed::nothing(),
         }
     }
 }

@@ -11,23 +11,27 @@ use calls::arguments::{ArbitrateArguments, DeviceArguments};
 use calls::call::{
     Call, CloseCall, InputCall, Lists, PanelCall, ReadCall, RouterCall, ShortcutCall,
 };
+use calls::shown::Shown;
 use composition_arbitration::arbitrate::{Arbitrated, arbitrate};
-use composition_close::answer::{Shutdown, SurfaceClosed};
+use composition_close::answer::{
+    CompositionShutdownReport, Shutdown, SurfaceCloseReport, SurfaceClosed,
+};
 use composition_close::close::close_surface;
 use composition_close::shutdown::shutdown;
 use composition_input::answer::CapturesReleased;
 use composition_input::captures::release_device_pointer_captures;
 use composition_shortcuts::register::Registrations;
 use composition_state::registry::CompositionRegistry;
-use handles::OptionalHandle;
 use input_events::error::from_composition;
-use input_releases::answer::Routed;
+use input_releases::answer::{Routed, no_result};
 use input_route::route::route;
 use input_router::releases::Released;
 use input_router::router::PlatformInputRouter;
-use read_step::steps::{ReadStepped, read_step};
+use read_step::steps::read_step;
+use records::error::CompositionError;
 use records::trace::Hits;
 use registry_step::steps::{RegistryStepped, input_step, panel_step, shortcut_step};
+use release_lists::captures::CaptureList;
 
 // The program's whole state.
 #[derive(Clone, Copy)]
@@ -46,18 +50,18 @@ pub struct Stepped {
 fn stepped_to(answer: Answer, registry: CompositionRegistry, router: PlatformInputRouter) -> Stepped
     ensures { result ≡ stepped_to answer registry router }
 {
-    let counter = Counter { registry, router };
-    Stepped { answer, counter }
+    Stepped {
+        answer,
+        counter: Counter { registry, router },
+    }
 }
 
+#[tactic(auto, unfolding(crate::specs::Step::stepped))]
 fn from_registry(stepped: RegistryStepped, router: PlatformInputRouter) -> Stepped
     ensures { result ≡ from_registry stepped router }
 {
-    let refusal = stepped.outcome;
-    let handle = stepped.handle;
-    let shown = stepped.shown;
     stepped_to(
-        Answer::of_shown(refusal, handle, shown),
+        Answer::of_shown(stepped.outcome, stepped.handle, stepped.shown),
         stepped.registry,
         router,
     )
@@ -66,9 +70,11 @@ fn from_registry(stepped: RegistryStepped, router: PlatformInputRouter) -> Stepp
 fn from_captures(released: CapturesReleased, router: PlatformInputRouter) -> Stepped
     ensures { result ≡ from_captures released router }
 {
-    let refusal = released.outcome;
     stepped_to(
-        Answer::of_listing(refusal, Listed::of_captures(released.released)),
+        Answer::of_listing(
+            released.refusal(),
+            Listed::of_captures(released.outcome.unwrap_or(CaptureList::new())),
+        ),
         released.registry,
         router,
     )
@@ -77,9 +83,11 @@ fn from_captures(released: CapturesReleased, router: PlatformInputRouter) -> Ste
 fn from_arbitrated(arbitrated: Arbitrated, router: PlatformInputRouter) -> Stepped
     ensures { result ≡ from_arbitrated arbitrated router }
 {
-    let refusal = arbitrated.outcome;
     stepped_to(
-        Answer::of_report(from_composition(refusal), of_arbitration(arbitrated.result)),
+        Answer::of_report(
+            from_composition(arbitrated.refusal()),
+            of_arbitration(arbitrated.outcome.unwrap_or(no_result())),
+        ),
         arbitrated.registry,
         router,
     )
@@ -88,9 +96,11 @@ fn from_arbitrated(arbitrated: Arbitrated, router: PlatformInputRouter) -> Stepp
 fn from_closed(closed: SurfaceClosed, router: PlatformInputRouter) -> Stepped
     ensures { result ≡ from_closed closed router }
 {
-    let refusal = closed.outcome;
     stepped_to(
-        Answer::of_listing(refusal, Listed::of_close(closed.report)),
+        Answer::of_listing(
+            closed.refusal(),
+            Listed::of_close(closed.outcome.unwrap_or(SurfaceCloseReport::blank())),
+        ),
         closed.registry,
         router,
     )
@@ -99,9 +109,11 @@ fn from_closed(closed: SurfaceClosed, router: PlatformInputRouter) -> Stepped
 fn from_shutdown(done: Shutdown, router: PlatformInputRouter) -> Stepped
     ensures { result ≡ from_shutdown done router }
 {
-    let refusal = done.outcome;
     stepped_to(
-        Answer::of_listing(refusal, Listed::of_shutdown(done.report)),
+        Answer::of_listing(
+            done.refusal(),
+            Listed::of_shutdown(done.outcome.unwrap_or(CompositionShutdownReport::blank())),
+        ),
         done.registry,
         router,
     )
@@ -110,9 +122,8 @@ fn from_shutdown(done: Shutdown, router: PlatformInputRouter) -> Stepped
 fn from_routed(routed: Routed) -> Stepped
     ensures { result ≡ from_routed routed }
 {
-    let outcome = routed.outcome;
     stepped_to(
-        Answer::of_report(outcome, routed.report),
+        Answer::of_report(routed.refusal(), routed.report()),
         routed.registry,
         routed.router,
     )
@@ -122,53 +133,50 @@ fn from_routed(routed: Routed) -> Stepped
 fn from_released(registry: CompositionRegistry, released: Released) -> Stepped
     ensures { result ≡ from_released registry released }
 {
-    let outcome = released.outcome;
     stepped_to(
-        Answer::of_report(outcome, of_releases(released.releases)),
+        Answer::of_report(released.refusal(), of_releases(released.listed())),
         registry,
         released.router,
     )
 }
 
 // A call that alters nothing leaves the counter as it was.
-fn from_read(counter: Counter, done: ReadStepped) -> Stepped
+fn from_read(counter: Counter, done: Result<Shown, CompositionError>) -> Stepped
     ensures { result ≡ from_read counter done }
 {
-    let refusal = done.outcome;
-    let shown = done.shown;
-    let answer = Answer::of_shown(refusal, OptionalHandle::None, shown);
-    Stepped { answer, counter }
+    Stepped {
+        answer: Answer::of_shown(done.and(Ok(())), None, done.unwrap_or(Shown::Nothing)),
+        counter,
+    }
 }
 
 #[inline(never)]
+#[tactic(auto, unfolding(crate::specs::Step::close_step))]
 fn close_step(counter: Counter, call: CloseCall) -> Stepped
     ensures { result ≡ close_step counter call }
 {
     match call {
-        CloseCall::CloseSurface(surface) => {
-            return from_closed(close_surface(counter.registry, surface), counter.router);
-        }
-        CloseCall::Shutdown => {
-            return from_shutdown(shutdown(counter.registry), counter.router);
-        }
+        CloseCall::CloseSurface(surface) => from_closed(
+            close_surface(counter.registry, surface),
+            counter.router,
+        ),
+        CloseCall::Shutdown => from_shutdown(shutdown(counter.registry), counter.router),
     }
 }
 
 // Also for a host that routes without the other calls.
 #[inline(never)]
+#[tactic(auto, unfolding(crate::specs::Step::router_step))]
 pub fn router_step(counter: Counter, call: RouterCall) -> Stepped
     ensures { result ≡ router_step counter call }
 {
     match call {
-        RouterCall::Route(event) => {
-            return from_routed(route(counter.registry, counter.router, event));
-        }
-        RouterCall::ReleaseSurface(surface) => {
-            return from_released(counter.registry, counter.router.release_surface(surface));
-        }
-        RouterCall::ReleaseAll => {
-            return from_released(counter.registry, counter.router.release_all());
-        }
+        RouterCall::Route(event) => from_routed(route(counter.registry, counter.router, event)),
+        RouterCall::ReleaseSurface(surface) => from_released(
+            counter.registry,
+            counter.router.release_surface(surface),
+        ),
+        RouterCall::ReleaseAll => from_released(counter.registry, counter.router.release_all()),
     }
 }
 
@@ -213,9 +221,8 @@ fn arbitrate_call(counter: Counter, given: ArbitrateArguments, hits: Hits) -> St
     ensures { result ≡ from_arbitrated (arbitrated counter.registry given.view given.event hits)
         counter.router }
 {
-    let event = given.event;
     from_arbitrated(
-        arbitrate(counter.registry, given.view, event, hits),
+        arbitrate(counter.registry, given.view, given.event, hits),
         counter.router,
     )
 }
@@ -228,33 +235,18 @@ fn read_call(counter: Counter, call: ReadCall) -> Stepped
 }
 
 // Each group of calls has a function of its own, not inlined, so that their states do not stand on the stack together.
+#[tactic(auto, unfolding(crate::specs::Step::stepped))]
 pub fn step(counter: Counter, call: Call, lists: Lists) -> Stepped
     ensures { result ≡ stepped counter call lists }
 {
     match call {
-        Call::Panel(which) => {
-            return panel_call(counter, which);
-        }
-        Call::Input(which) => {
-            return input_call(counter, which);
-        }
-        Call::ReleaseDevice(given) => {
-            return device_call(counter, given);
-        }
-        Call::Shortcut(which) => {
-            return shortcut_call(counter, which, lists.registrations);
-        }
-        Call::Arbitrate(given) => {
-            return arbitrate_call(counter, given, lists.hits);
-        }
-        Call::Close(which) => {
-            return close_step(counter, which);
-        }
-        Call::Router(which) => {
-            return router_step(counter, which);
-        }
-        Call::Read(which) => {
-            return read_call(counter, which);
-        }
+        Call::Panel(which) => panel_call(counter, which),
+        Call::Input(which) => input_call(counter, which),
+        Call::ReleaseDevice(given) => device_call(counter, given),
+        Call::Shortcut(which) => shortcut_call(counter, which, lists.registrations),
+        Call::Arbitrate(given) => arbitrate_call(counter, given, lists.hits),
+        Call::Close(which) => close_step(counter, which),
+        Call::Router(which) => router_step(counter, which),
+        Call::Read(which) => read_call(counter, which),
     }
 }

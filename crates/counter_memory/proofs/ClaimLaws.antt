@@ -1,8 +1,8 @@
 -- The claims about a counter as memory: reading back part by part, and the first test of each damage test.
+use Rattle.std.specs.Prelude.{Err}
 use mathlib.Core.Path.{◌≡◌, sym, ap, ◌∙◌}
 use mathlib.Core.Bool.{false}
 use Rattle.records.specs.declared.error.CompositionError.TheVariants.{Damaged}
-use Rattle.records.specs.declared.error.Outcome.TheVariants.{Refused}
 use Rattle.composition_state.specs.Damage.{damage_refusal, is_sound}
 use Rattle.input_router.specs.Damage.{is_router_sound}
 use Rattle.counter.specs.declared.step.Counter.{Counter}
@@ -19,7 +19,7 @@ read_back c = rw (registry_back c.registry, router_back c.router)
 one_counter : (a b : Counter) → memory_of a ≡ memory_of b → a ≡ b
 one_counter a b e = sym (read_back a) ∙ ap counter_of e ∙ read_back b
 
-registry_not_started : (m : CounterMemory) → m.registry.limits.max_windows ≡ 0 → damage_refusal (counter_of m).registry ≡ Refused Damaged
+registry_not_started : (m : CounterMemory) → m.registry.limits.max_windows ≡ 0 → damage_refusal (counter_of m).registry ≡ Err Damaged
 unfolding registry_of is_sound
 registry_not_started m e = rw e
 

@@ -1,3 +1,3 @@
-pub mod FillLaws
+pub mod ArrayLaws
 pub mod RoundLaws
 pub mod ClaimLaws

@@ -1,12 +1,11 @@
 -- What a part of the state becomes as memory is read as that part: by the cases of the enums, field by field, and entry by entry in the tables.
+use Rattle.handles.specs.declared.GenerationalHandle.{GenerationalHandle}
+use Rattle.geometry.specs.declared.rect.SurfaceRect.{SurfaceRect}
+use Rattle.std.specs.Prelude.{Option, None, Some}
 use mathlib.Core.Path.{◌≡◌, refl}
 use mathlib.Core.List.{List, [], ◌∷◌, map}
 use Rattle.geometry.specs.declared.metrics.ViewMetrics.{ViewMetrics}
-use Rattle.geometry.specs.declared.rect.OptionalRect.{OptionalRect}
-use Rattle.geometry.specs.declared.rect.OptionalRect.TheVariants as rect
 use Rattle.geometry.specs.declared.surface.SurfaceGeometry.{SurfaceGeometry}
-use Rattle.handles.specs.declared.OptionalHandle.{OptionalHandle}
-use Rattle.handles.specs.declared.OptionalHandle.TheVariants as handle
 use Rattle.maps.specs.declared.bindings.Binding.{Binding}
 use Rattle.maps.specs.declared.keys.BindingKey.{BindingKey}
 use Rattle.maps.specs.declared.keys.BindingKey.TheVariants as key
@@ -34,13 +33,13 @@ each_back : {A B : Type 0} (f : A → B) (g : B → A) → ((x : A) → g (f x) 
 each_back f g h [] = refl
 each_back f g h (x ∷ l) = rw (h x, each_back f g h l)
 
-optional_handle_back : (o : OptionalHandle) → optional_handle_of (optional_handle_memory o) ≡ o
-optional_handle_back handle.None = refl
-optional_handle_back (handle.Some h) = refl
+optional_handle_back : (o : Option GenerationalHandle) → optional_handle_of (optional_handle_memory o) ≡ o
+optional_handle_back None = refl
+optional_handle_back (Some h) = refl
 
-optional_rect_back : (o : OptionalRect) → optional_rect_of (optional_rect_memory o) ≡ o
-optional_rect_back rect.None = refl
-optional_rect_back (rect.Some r) = refl
+optional_rect_back : (o : Option SurfaceRect) → optional_rect_of (optional_rect_memory o) ≡ o
+optional_rect_back None = refl
+optional_rect_back (Some r) = refl
 
 event_back : (e : ArbitrationEvent) → event_of (event_memory e) ≡ e
 event_back (Pointer hit) = rw (optional_handle_back hit)
@@ -84,8 +83,8 @@ binding_back b = rw (press_back b.key)
 pub registry_back : (r : CompositionRegistry) → registry_of (registry_memory r) ≡ r
 unfolding registry_memory registry_of
 registry_back r =
-    rw (each_back view_memory view_of view_back r.views.records, each_back surface_memory surface_of surface_back r.surfaces.records, each_back shortcut_memory shortcut_of shortcut_back r.shortcuts.entries, each_back trace_memory trace_of trace_back r.traces.items)
+    rw (each_back view_memory view_of view_back r.views.records, each_back surface_memory surface_of surface_back r.surfaces.records, each_back shortcut_memory shortcut_of shortcut_back r.shortcuts.items, each_back trace_memory trace_of trace_back r.traces.items)
 
 pub router_back : (r : PlatformInputRouter) → router_of (router_memory r) ≡ r
 unfolding router_memory router_of
-router_back r = rw (each_back binding_memory binding_of binding_back r.bindings.entries)
+router_back r = rw (each_back binding_memory binding_of binding_back r.bindings.table.items)

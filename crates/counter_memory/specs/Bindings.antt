@@ -1,7 +1,7 @@
 -- The open presses, each with its key as the numbers of `MapKey`, and their table.
 use Rattle.std.specs.Prelude.{cond, map, eqb}
 use Rattle.maps.specs.declared.bindings.Binding.{Binding}
-use Rattle.maps.specs.declared.bindings.Bindings.{Bindings}
+use Rattle.maps.specs.Bindings.{Bindings}
 use Rattle.maps.specs.declared.keys.BindingKey.{BindingKey}
 use Rattle.maps.specs.declared.keys.BindingKey.TheVariants.{Pointer, Key, Gamepad}
 use Rattle.maps.specs.declared.keys.MapKey.{MapKey}
@@ -26,7 +26,7 @@ binding_of m = record { key = key_of m.key; surface = m.surface }
 
 -- the table: every place, also past the count, and the count as it is
 abbrev pub bindings_memory : Bindings → BindingsMemory
-bindings_memory t = record { entries = map binding_memory t.entries; len = t.len }
+bindings_memory t = record { entries = map binding_memory t.table.items; len = t.table.len }
 
 abbrev pub bindings_of : BindingsMemory → Bindings
-bindings_of m = record { entries = map binding_of m.entries; len = m.len }
+bindings_of m = record { table = record { items = map binding_of m.entries; len = m.len } }

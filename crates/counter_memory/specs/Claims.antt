@@ -1,7 +1,6 @@
 -- What holds of a counter as memory beyond the answers of the two functions.
-use Rattle.std.specs.Prelude.{◌≡◌, false}
+use Rattle.std.specs.Prelude.{◌≡◌, false, Err}
 use Rattle.records.specs.declared.error.CompositionError.TheVariants.{Damaged}
-use Rattle.records.specs.declared.error.Outcome.TheVariants.{Refused}
 use Rattle.composition_state.specs.Damage.{damage_refusal}
 use Rattle.input_router.specs.Damage.{is_router_sound}
 use Rattle.counter.specs.declared.step.Counter.{Counter}
@@ -16,6 +15,6 @@ pub record MemoryClaims : Type 0 where
   -- memory with a limit of 0, as memory of zeros has, is read as a registry and a router that the damage tests reject
   -- (42)
   pub registry_not_started : (m : CounterMemory) → m.registry.limits.max_windows ≡ 0
-      → damage_refusal (counter_of m).registry ≡ Refused Damaged
+      → damage_refusal (counter_of m).registry ≡ Err Damaged
   pub router_not_started : (m : CounterMemory) → m.router.max_active_bindings ≡ 0
       → is_router_sound (counter_of m).router ≡ false

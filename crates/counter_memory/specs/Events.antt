@@ -1,7 +1,6 @@
 -- The event of a trace: the number of its kind, in the Rust's declared order, and what a kind can have.
-use Rattle.std.specs.Prelude.{ℕ, List, [], ◌∷◌, get_or}
-use Rattle.handles.specs.declared.OptionalHandle.{OptionalHandle}
-use Rattle.handles.specs.declared.OptionalHandle.TheVariants.{None}
+use Rattle.handles.specs.declared.GenerationalHandle.{GenerationalHandle}
+use Rattle.std.specs.Prelude.{ℕ, List, [], ◌∷◌, get_or, Option, None}
 use Rattle.maps.specs.declared.keys.CompositionPointerId.{CompositionPointerId}
 use Rattle.records.specs.declared.trace.ArbitrationEvent.{ArbitrationEvent}
 use Rattle.records.specs.declared.trace.ArbitrationEvent.TheVariants.{Pointer, PointerStack, PointerFor, PointerStackFor, Keyboard, KeyboardFor, Gamepad, GamepadFor, Text, Shortcut, SystemShortcut}
@@ -13,7 +12,7 @@ abbrev pub no_pointer : CompositionPointerId
 no_pointer = record { device = 0; device_generation = 0; contact = 0 }
 
 -- a kind's number, with a pointer, a target and a class mask
-abbrev pub event_with : ℕ → CompositionPointerId → OptionalHandle → ℕ → ArbitrationEventMemory
+abbrev pub event_with : ℕ → CompositionPointerId → Option GenerationalHandle → ℕ → ArbitrationEventMemory
 event_with kind pointer target mask =
     record { pointer = pointer; class_mask = mask; target = optional_handle_memory target; kind = kind }
 
@@ -32,13 +31,13 @@ event_memory Shortcut = event_with 9 no_pointer None 0
 event_memory (SystemShortcut mask) = event_with 10 no_pointer None mask
 
 -- the event of each kind, in declared order
-abbrev pub events : CompositionPointerId → OptionalHandle → ℕ → List ArbitrationEvent
+abbrev pub events : CompositionPointerId → Option GenerationalHandle → ℕ → List ArbitrationEvent
 events pointer target mask =
     Pointer target ∷ PointerStack ∷ PointerFor pointer target ∷ PointerStackFor pointer ∷ Keyboard ∷ KeyboardFor target
     ∷ Gamepad ∷ GamepadFor target ∷ Text ∷ Shortcut ∷ SystemShortcut mask ∷ []
 
 -- the event of a kind's number; past the last kind it is the first
-abbrev pub event_from : ℕ → CompositionPointerId → OptionalHandle → ℕ → ArbitrationEvent
+abbrev pub event_from : ℕ → CompositionPointerId → Option GenerationalHandle → ℕ → ArbitrationEvent
 event_from kind pointer target mask = get_or (events pointer target mask) kind (Pointer target)
 
 -- what a kind has not is not read

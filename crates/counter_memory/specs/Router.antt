@@ -8,7 +8,7 @@ router_memory r =
     record {
       max_active_bindings = r.max_active_bindings;
       last_timestamp_micros = r.last_timestamp_micros;
-      device_sequences = r.device_sequences;
+      device_sequences = record { entries = r.device_sequences.table.items; len = r.device_sequences.table.len };
       bindings = bindings_memory r.bindings;
     }
 
@@ -17,6 +17,6 @@ router_of m =
     record {
       max_active_bindings = m.max_active_bindings;
       last_timestamp_micros = m.last_timestamp_micros;
-      device_sequences = m.device_sequences;
+      device_sequences = record { table = record { items = m.device_sequences.entries; len = m.device_sequences.len } };
       bindings = bindings_of m.bindings;
     }

@@ -1,6 +1,6 @@
 -- The registrations of system shortcuts, and their table.
 use Rattle.std.specs.Prelude.{map}
-use Rattle.records.specs.declared.shortcut.Shortcuts.{Shortcuts}
+use Rattle.records.specs.Shortcuts.{Shortcuts}
 use Rattle.records.specs.declared.shortcut.SlotShortcut.{SlotShortcut}
 use Rattle.counter_memory.specs.declared.shortcuts.ShortcutsMemory.{ShortcutsMemory}
 use Rattle.counter_memory.specs.declared.shortcuts.SlotShortcutMemory.{SlotShortcutMemory}
@@ -20,7 +20,7 @@ shortcut_of m =
 
 -- the table: every place, also past the count, and the count as it is
 abbrev pub shortcuts_memory : Shortcuts → ShortcutsMemory
-shortcuts_memory t = record { entries = map shortcut_memory t.entries; len = t.len }
+shortcuts_memory t = record { entries = map shortcut_memory t.items; len = t.len }
 
 abbrev pub shortcuts_of : ShortcutsMemory → Shortcuts
-shortcuts_of m = record { entries = map shortcut_of m.entries; len = m.len }
+shortcuts_of m = record { items = map shortcut_of m.entries; len = m.len }

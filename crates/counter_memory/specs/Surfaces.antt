@@ -2,7 +2,7 @@
 use Rattle.std.specs.Prelude.{map}
 use Rattle.geometry.specs.declared.surface.SurfaceGeometry.{SurfaceGeometry}
 use Rattle.records.specs.declared.surface.SurfaceRecord.{SurfaceRecord}
-use Rattle.records.specs.declared.surface.SurfaceTable.{SurfaceTable}
+use Rattle.records.specs.Surfaces.{SurfaceTable}
 use Rattle.counter_memory.specs.declared.surfaces.SurfaceGeometryMemory.{SurfaceGeometryMemory}
 use Rattle.counter_memory.specs.declared.surfaces.SurfaceRecordMemory.{SurfaceRecordMemory}
 use Rattle.counter_memory.specs.declared.surfaces.SurfaceTableMemory.{SurfaceTableMemory}

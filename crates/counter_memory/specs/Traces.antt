@@ -1,7 +1,7 @@
 -- The last arbitrations, and their table.
 use Rattle.std.specs.Prelude.{map}
 use Rattle.records.specs.declared.trace.CompositionTrace.{CompositionTrace}
-use Rattle.records.specs.declared.trace.Traces.{Traces}
+use Rattle.records.specs.Traces.{Traces}
 use Rattle.counter_memory.specs.declared.traces.CompositionTraceMemory.{CompositionTraceMemory}
 use Rattle.counter_memory.specs.declared.traces.TracesMemory.{TracesMemory}
 use Rattle.counter_memory.specs.Events.{event_memory, event_of}
@@ -14,8 +14,8 @@ trace_memory t =
       revision = t.revision;
       view = t.view;
       event = event_memory t.event;
-      hits = t.hits;
-      deliveries = t.deliveries;
+      hits = record { items = t.hits.items; len = t.hits.len };
+      deliveries = record { items = t.deliveries.items; len = t.deliveries.len };
       consumed_by = optional_handle_memory t.consumed_by;
     }
 
@@ -25,8 +25,8 @@ trace_of m =
       revision = m.revision;
       view = m.view;
       event = event_of m.event;
-      hits = m.hits;
-      deliveries = m.deliveries;
+      hits = record { items = m.hits.items; len = m.hits.len };
+      deliveries = record { items = m.deliveries.items; len = m.deliveries.len };
       consumed_by = optional_handle_of m.consumed_by;
     }
 

@@ -2,7 +2,7 @@
 use Rattle.std.specs.Prelude.{map}
 use Rattle.geometry.specs.declared.metrics.ViewMetrics.{ViewMetrics}
 use Rattle.records.specs.declared.view.ViewRecord.{ViewRecord}
-use Rattle.records.specs.declared.view.ViewTable.{ViewTable}
+use Rattle.records.specs.Views.{ViewTable}
 use Rattle.counter_memory.specs.declared.views.ViewMetricsMemory.{ViewMetricsMemory}
 use Rattle.counter_memory.specs.declared.views.ViewRecordMemory.{ViewRecordMemory}
 use Rattle.counter_memory.specs.declared.views.ViewTableMemory.{ViewTableMemory}
@@ -43,10 +43,10 @@ abbrev pub view_memory : ViewRecord → ViewRecordMemory
 view_memory v = record {
   window = v.window;
   metrics = metrics_memory v.metrics;
-  surfaces = v.surfaces;
+  surfaces = record { items = v.surfaces.items; len = v.surfaces.len };
   focus = optional_handle_memory v.focus;
   pointer_capture = optional_handle_memory v.pointer_capture;
-  pointer_captures = v.pointer_captures;
+  pointer_captures = record { entries = v.pointer_captures.table.items; len = v.pointer_captures.table.len };
   ime = optional_handle_memory v.ime;
 }
 
@@ -54,10 +54,10 @@ abbrev pub view_of : ViewRecordMemory → ViewRecord
 view_of m = record {
   window = m.window;
   metrics = metrics_of m.metrics;
-  surfaces = m.surfaces;
+  surfaces = record { items = m.surfaces.items; len = m.surfaces.len };
   focus = optional_handle_of m.focus;
   pointer_capture = optional_handle_of m.pointer_capture;
-  pointer_captures = m.pointer_captures;
+  pointer_captures = record { table = record { items = m.pointer_captures.entries; len = m.pointer_captures.len } };
   ime = optional_handle_of m.ime;
 }
 

@@ -1,8 +1,10 @@
 // The open presses, each with its key as numbers, and their table.
-ghost use Rattle.std.specs.Prelude.{◌≡◌, map};
+ghost use Rattle.std.specs.Prelude.{◌≡◌};
 ghost use Rattle.counter_memory.specs.Bindings.{key_of, binding_memory, binding_of, bindings_memory, bindings_of};
 
+use crate::arrays::converted;
 use handles::GenerationalHandle;
+use lists::table::Table;
 use maps::bindings::{Binding, Bindings};
 use maps::keys::{BindingKey, CompositionPointerId, DeviceKey, InputDeviceId, MapKey, binding_key};
 
@@ -13,6 +15,7 @@ pub struct BindingMemory {
     pub surface: GenerationalHandle,
 }
 
+// A struct of its own, since C hands in no table with parameters.
 #[repr(C)]
 #[derive(Clone, Copy)]
 pub struct BindingsMemory {
@@ -20,7 +23,7 @@ pub struct BindingsMemory {
     pub len: usize,
 }
 
-// A kind past the last is read as the first, a pointer.
+// A kind past the last is read as the first, a pointer. A function, since both types are of the crate `maps`.
 fn key_of(key: MapKey) -> BindingKey
     ensures { result ≡ key_of key }
 {
@@ -28,83 +31,62 @@ fn key_of(key: MapKey) -> BindingKey
         value: key.device,
         generation: key.generation,
     };
-    if key.kind == 1 {
-        return BindingKey::Key(DeviceKey {
+    match key.kind {
+        1 => BindingKey::Key(DeviceKey {
             device,
             physical_key: key.code,
-        });
-    }
-    if key.kind == 2 {
-        return BindingKey::Gamepad(device);
-    }
-    BindingKey::Pointer(CompositionPointerId {
-        device: key.device,
-        device_generation: key.generation,
-        contact: key.code,
-    })
-}
-
-fn binding_memory(entry: Binding) -> BindingMemory
-    ensures { result ≡ binding_memory entry }
-{
-    let key = entry.key;
-    let surface = entry.surface;
-    BindingMemory {
-        key: binding_key(key),
-        surface,
+        }),
+        2 => BindingKey::Gamepad(device),
+        _ => BindingKey::Pointer(CompositionPointerId {
+            device: key.device,
+            device_generation: key.generation,
+            contact: key.code,
+        }),
     }
 }
 
-fn binding_of(memory: BindingMemory) -> Binding
-    ensures { result ≡ binding_of memory }
-{
-    let surface = memory.surface;
-    Binding {
-        key: key_of(memory.key),
-        surface,
+impl From<Binding> for BindingMemory {
+    ghost from_gives = { λ entry memory. memory ≡ binding_memory entry };
+
+    fn from(entry: Binding) -> Self {
+        Self {
+            key: binding_key(entry.key),
+            surface: entry.surface,
+        }
     }
 }
 
-fn entries_memory(entries: [Binding; 128]) -> [BindingMemory; 128]
-    ensures { result ≡ map binding_memory entries }
-{
-    let mut memory = [binding_memory(entries[0]); 128];
-    let mut i: usize = 0;
-    while i < 128 {
-        memory[i] = binding_memory(entries[i]);
-        i += 1;
-    }
-    memory
-}
+impl From<BindingMemory> for Binding {
+    ghost from_gives = { λ memory entry. entry ≡ binding_of memory };
 
-fn entries_of(memory: [BindingMemory; 128]) -> [Binding; 128]
-    ensures { result ≡ map binding_of memory }
-{
-    let mut entries = [binding_of(memory[0]); 128];
-    let mut i: usize = 0;
-    while i < 128 {
-        entries[i] = binding_of(memory[i]);
-        i += 1;
-    }
-    entries
-}
-
-pub fn bindings_memory(bindings: Bindings) -> BindingsMemory
-    ensures { result ≡ bindings_memory bindings }
-{
-    let entries = bindings.entries;
-    BindingsMemory {
-        entries: entries_memory(entries),
-        len: bindings.len,
+    fn from(memory: BindingMemory) -> Self {
+        Self {
+            key: key_of(memory.key),
+            surface: memory.surface,
+        }
     }
 }
 
-pub fn bindings_of(memory: BindingsMemory) -> Bindings
-    ensures { result ≡ bindings_of memory }
-{
-    let entries = memory.entries;
-    Bindings {
-        entries: entries_of(entries),
-        len: memory.len,
+impl From<Bindings> for BindingsMemory {
+    ghost from_gives = { λ bindings memory. memory ≡ bindings_memory bindings };
+
+    fn from(bindings: Bindings) -> Self {
+        Self {
+            entries: converted(&bindings.table.items),
+            len: bindings.table.len,
+        }
+    }
+}
+
+impl From<BindingsMemory> for Bindings {
+    ghost from_gives = { λ memory bindings. bindings ≡ bindings_of memory };
+
+    fn from(memory: BindingsMemory) -> Self {
+        Self {
+            table: Table {
+                items: converted(&memory.entries),
+                len: memory.len,
+            },
+        }
     }
 }

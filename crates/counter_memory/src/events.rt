@@ -1,10 +1,9 @@
 // The event of a trace: the number of its kind, in the Rust's declared order, and what a kind can have. What a kind has
 // not is 0 and not read.
-ghost use Rattle.std.specs.Prelude.{◌≡◌};
-ghost use Rattle.counter_memory.specs.Events.{event_with, event_memory, event_from, event_of, no_pointer};
+ghost use Rattle.std.specs.Prelude.{◌≡◌, None};
+ghost use Rattle.counter_memory.specs.Events.{no_pointer, event_with, event_memory, event_of};
 
-use crate::optionals::{OptionalHandleMemory, optional_handle_memory, optional_handle_of};
-use handles::OptionalHandle;
+use crate::optionals::OptionalHandleMemory;
 use maps::keys::CompositionPointerId;
 use records::trace::ArbitrationEvent;
 
@@ -17,86 +16,82 @@ pub struct ArbitrationEventMemory {
     pub kind: u8,
 }
 
-fn no_pointer() -> CompositionPointerId
-    ensures { result ≡ no_pointer }
-{
-    CompositionPointerId {
-        device: 0,
-        device_generation: 0,
-        contact: 0,
-    }
-}
-
-fn event_with(
-    kind: u8,
-    pointer: CompositionPointerId,
-    target: OptionalHandle,
-    class_mask: u64,
-) -> ArbitrationEventMemory
-    ensures { result ≡ event_with kind pointer target class_mask }
+// The memory of a kind that has nothing.
+fn bare(kind: u8) -> ArbitrationEventMemory
+    ensures { result ≡ event_with kind no_pointer None 0 }
 {
     ArbitrationEventMemory {
-        pointer,
-        class_mask,
-        target: optional_handle_memory(target),
+        pointer: CompositionPointerId {
+            device: 0,
+            device_generation: 0,
+            contact: 0,
+        },
+        class_mask: 0,
+        target: None.into(),
         kind,
     }
 }
 
-pub fn event_memory(event: ArbitrationEvent) -> ArbitrationEventMemory
-    ensures { result ≡ event_memory event }
-{
-    let blank = no_pointer();
-    let none = OptionalHandle::None;
-    match event {
-        ArbitrationEvent::Pointer { hit } => event_with(0, blank, hit, 0),
-        ArbitrationEvent::PointerStack => event_with(1, blank, none, 0),
-        ArbitrationEvent::PointerFor { pointer, hit } => event_with(2, pointer, hit, 0),
-        ArbitrationEvent::PointerStackFor { pointer } => event_with(3, pointer, none, 0),
-        ArbitrationEvent::Keyboard => event_with(4, blank, none, 0),
-        ArbitrationEvent::KeyboardFor { target } => event_with(5, blank, target, 0),
-        ArbitrationEvent::Gamepad => event_with(6, blank, none, 0),
-        ArbitrationEvent::GamepadFor { target } => event_with(7, blank, target, 0),
-        ArbitrationEvent::Text => event_with(8, blank, none, 0),
-        ArbitrationEvent::Shortcut => event_with(9, blank, none, 0),
-        ArbitrationEvent::SystemShortcut { class_mask } => event_with(10, blank, none, class_mask),
-    }
-}
+impl From<ArbitrationEvent> for ArbitrationEventMemory {
+    ghost from_gives = { λ event memory. memory ≡ event_memory event };
 
-fn event_from(
-    kind: u8,
-    pointer: CompositionPointerId,
-    target: OptionalHandle,
-    class_mask: u64,
-) -> ArbitrationEvent
-    ensures { result ≡ event_from kind pointer target class_mask }
-{
-    match kind {
-        1 => ArbitrationEvent::PointerStack,
-        2 => ArbitrationEvent::PointerFor {
-            pointer,
-            hit: target,
-        },
-        3 => ArbitrationEvent::PointerStackFor { pointer },
-        4 => ArbitrationEvent::Keyboard,
-        5 => ArbitrationEvent::KeyboardFor { target },
-        6 => ArbitrationEvent::Gamepad,
-        7 => ArbitrationEvent::GamepadFor { target },
-        8 => ArbitrationEvent::Text,
-        9 => ArbitrationEvent::Shortcut,
-        10 => ArbitrationEvent::SystemShortcut { class_mask },
-        _ => ArbitrationEvent::Pointer { hit: target },
+    fn from(event: ArbitrationEvent) -> Self {
+        match event {
+            ArbitrationEvent::Pointer { hit } => Self {
+                target: hit.into(),
+                ..bare(0)
+            },
+            ArbitrationEvent::PointerStack => bare(1),
+            ArbitrationEvent::PointerFor { pointer, hit } => Self {
+                pointer,
+                target: hit.into(),
+                ..bare(2)
+            },
+            ArbitrationEvent::PointerStackFor { pointer } => Self { pointer, ..bare(3) },
+            ArbitrationEvent::Keyboard => bare(4),
+            ArbitrationEvent::KeyboardFor { target } => Self {
+                target: target.into(),
+                ..bare(5)
+            },
+            ArbitrationEvent::Gamepad => bare(6),
+            ArbitrationEvent::GamepadFor { target } => Self {
+                target: target.into(),
+                ..bare(7)
+            },
+            ArbitrationEvent::Text => bare(8),
+            ArbitrationEvent::Shortcut => bare(9),
+            ArbitrationEvent::SystemShortcut { class_mask } => Self {
+                class_mask,
+                ..bare(10)
+            },
+        }
     }
 }
 
 // A kind past the last is read as the first.
-pub fn event_of(memory: ArbitrationEventMemory) -> ArbitrationEvent
-    ensures { result ≡ event_of memory }
-{
-    event_from(
-        memory.kind,
-        memory.pointer,
-        optional_handle_of(memory.target),
-        memory.class_mask,
-    )
+impl From<ArbitrationEventMemory> for ArbitrationEvent {
+    ghost from_gives = { λ memory event. event ≡ event_of memory };
+
+    fn from(memory: ArbitrationEventMemory) -> Self {
+        let pointer = memory.pointer;
+        let target = memory.target.into();
+        match memory.kind {
+            1 => ArbitrationEvent::PointerStack,
+            2 => ArbitrationEvent::PointerFor {
+                pointer,
+                hit: target,
+            },
+            3 => ArbitrationEvent::PointerStackFor { pointer },
+            4 => ArbitrationEvent::Keyboard,
+            5 => ArbitrationEvent::KeyboardFor { target },
+            6 => ArbitrationEvent::Gamepad,
+            7 => ArbitrationEvent::GamepadFor { target },
+            8 => ArbitrationEvent::Text,
+            9 => ArbitrationEvent::Shortcut,
+            10 => ArbitrationEvent::SystemShortcut {
+                class_mask: memory.class_mask,
+            },
+            _ => ArbitrationEvent::Pointer { hit: target },
+        }
+    }
 }

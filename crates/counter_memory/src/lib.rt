@@ -1,11 +1,10 @@
 // The counter as memory of a host: every enum of its state is a number, so that an exported function can take a
 // reference to it.
-// An array is converted entry by entry; it starts filled with what its first entry becomes, so that no blank is needed.
 
 #![tactic(auto)]
 
+pub mod arrays;
 pub mod bindings;
-pub mod choices;
 pub mod events;
 pub mod memory;
 pub mod optionals;

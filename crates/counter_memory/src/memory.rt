@@ -2,8 +2,8 @@
 ghost use Rattle.std.specs.Prelude.{◌≡◌};
 ghost use Rattle.counter_memory.specs.Memory.{memory_of, counter_of};
 
-use crate::registry::{RegistryMemory, registry_memory, registry_of};
-use crate::router::{RouterMemory, router_memory, router_of};
+use crate::registry::RegistryMemory;
+use crate::router::RouterMemory;
 use counter::step::Counter;
 
 #[repr(C)]
@@ -13,21 +13,25 @@ pub struct CounterMemory {
     pub router: RouterMemory,
 }
 
-pub fn memory_of(counter: Counter) -> CounterMemory
-    ensures { result ≡ memory_of counter }
-{
-    CounterMemory {
-        registry: registry_memory(counter.registry),
-        router: router_memory(counter.router),
+impl From<Counter> for CounterMemory {
+    ghost from_gives = { λ counter memory. memory ≡ memory_of counter };
+
+    fn from(counter: Counter) -> Self {
+        Self {
+            registry: counter.registry.into(),
+            router: counter.router.into(),
+        }
     }
 }
 
 // Any numbers are read as some counter, and the damage test judges what was read. A bool is 0 or 1.
-pub fn counter_of(memory: CounterMemory) -> Counter
-    ensures { result ≡ counter_of memory }
-{
-    Counter {
-        registry: registry_of(memory.registry),
-        router: router_of(memory.router),
+impl From<CounterMemory> for Counter {
+    ghost from_gives = { λ memory counter. counter ≡ counter_of memory };
+
+    fn from(memory: CounterMemory) -> Self {
+        Self {
+            registry: memory.registry.into(),
+            router: memory.router.into(),
+        }
     }
 }

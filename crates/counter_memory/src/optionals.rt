@@ -1,10 +1,11 @@
 // Optional handles and rectangles: a flag and the value, which is all zeros where there is none. Beside a false flag
 // the value is not read.
+// Each is a struct of its own, since C hands in none with a type parameter.
 ghost use Rattle.std.specs.Prelude.{◌≡◌};
 ghost use Rattle.counter_memory.specs.Optionals.{optional_handle_memory, optional_handle_of, optional_rect_memory, optional_rect_of};
 
-use geometry::rect::{OptionalRect, SurfaceRect};
-use handles::{GenerationalHandle, OptionalHandle};
+use geometry::rect::SurfaceRect;
+use handles::GenerationalHandle;
 
 #[repr(C)]
 #[derive(Clone, Copy)]
@@ -20,66 +21,45 @@ pub struct OptionalRectMemory {
     pub rect: SurfaceRect,
 }
 
-pub fn optional_handle_memory(value: OptionalHandle) -> OptionalHandleMemory
-    ensures { result ≡ optional_handle_memory value }
-{
-    match value {
-        OptionalHandle::None => {
-            let handle = GenerationalHandle {
-                index: 0,
-                generation: 0,
-            };
-            OptionalHandleMemory {
-                is_some: false,
-                handle,
-            }
+impl From<Option<GenerationalHandle>> for OptionalHandleMemory {
+    ghost from_gives = { λ value memory. memory ≡ optional_handle_memory value };
+
+    fn from(value: Option<GenerationalHandle>) -> Self {
+        Self {
+            is_some: value.is_some(),
+            handle: value.unwrap_or(GenerationalHandle::ZERO),
         }
-        OptionalHandle::Some(handle) => OptionalHandleMemory {
-            is_some: true,
-            handle,
-        },
     }
 }
 
-pub fn optional_handle_of(memory: OptionalHandleMemory) -> OptionalHandle
-    ensures { result ≡ optional_handle_of memory }
-{
-    if memory.is_some {
-        let handle = memory.handle;
-        return OptionalHandle::Some(handle);
+impl From<OptionalHandleMemory> for Option<GenerationalHandle> {
+    ghost from_gives = { λ memory value. value ≡ optional_handle_of memory };
+
+    fn from(memory: OptionalHandleMemory) -> Self {
+        memory.is_some.then_some(memory.handle)
     }
-    OptionalHandle::None
 }
 
-pub fn optional_rect_memory(value: OptionalRect) -> OptionalRectMemory
-    ensures { result ≡ optional_rect_memory value }
-{
-    match value {
-        OptionalRect::None => {
-            let rect = SurfaceRect {
+impl From<Option<SurfaceRect>> for OptionalRectMemory {
+    ghost from_gives = { λ value memory. memory ≡ optional_rect_memory value };
+
+    fn from(value: Option<SurfaceRect>) -> Self {
+        Self {
+            is_some: value.is_some(),
+            rect: value.unwrap_or(SurfaceRect {
                 x_milli: 0,
                 y_milli: 0,
                 width_milli: 0,
                 height_milli: 0,
-            };
-            OptionalRectMemory {
-                is_some: false,
-                rect,
-            }
+            }),
         }
-        OptionalRect::Some(rect) => OptionalRectMemory {
-            is_some: true,
-            rect,
-        },
     }
 }
 
-pub fn optional_rect_of(memory: OptionalRectMemory) -> OptionalRect
-    ensures { result ≡ optional_rect_of memory }
-{
-    if memory.is_some {
-        let rect = memory.rect;
-        return OptionalRect::Some(rect);
+impl From<OptionalRectMemory> for Option<SurfaceRect> {
+    ghost from_gives = { λ memory value. value ≡ optional_rect_of memory };
+
+    fn from(memory: OptionalRectMemory) -> Self {
+        memory.is_some.then_some(memory.rect)
     }
-    OptionalRect::None
 }

@@ -1,11 +1,14 @@
 // The registry.
+
+#![tactic(auto, unfolding(crate::specs::Registry::registry_memory, crate::specs::Registry::registry_of))]
+
 ghost use Rattle.std.specs.Prelude.{◌≡◌};
 ghost use Rattle.counter_memory.specs.Registry.{registry_memory, registry_of};
 
-use crate::shortcuts::{ShortcutsMemory, shortcuts_memory, shortcuts_of};
-use crate::surfaces::{SurfaceTableMemory, surfaces_memory, surfaces_of};
-use crate::traces::{TracesMemory, traces_memory, traces_of};
-use crate::views::{ViewTableMemory, views_memory, views_of};
+use crate::shortcuts::ShortcutsMemory;
+use crate::surfaces::SurfaceTableMemory;
+use crate::traces::TracesMemory;
+use crate::views::ViewTableMemory;
 use composition_state::registry::{CompositionLimits, CompositionRegistry};
 use handles::GenerationalHandle;
 use handles::arena::Arena;
@@ -25,42 +28,40 @@ pub struct RegistryMemory {
     pub traces: TracesMemory,
 }
 
-pub fn registry_memory(registry: CompositionRegistry) -> RegistryMemory
-    ensures { result ≡ registry_memory registry }
-{
-    let session = registry.session;
-    let limits = registry.limits;
-    let windows = registry.windows;
-    RegistryMemory {
-        session,
-        session_epoch: registry.session_epoch,
-        limits,
-        first_generation: registry.first_generation,
-        revision: registry.revision,
-        windows,
-        views: views_memory(registry.views),
-        surfaces: surfaces_memory(registry.surfaces),
-        shortcuts: shortcuts_memory(registry.shortcuts),
-        traces: traces_memory(registry.traces),
+impl From<CompositionRegistry> for RegistryMemory {
+    ghost from_gives = { λ registry memory. memory ≡ registry_memory registry };
+
+    fn from(registry: CompositionRegistry) -> Self {
+        Self {
+            session: registry.session,
+            session_epoch: registry.session_epoch,
+            limits: registry.limits,
+            first_generation: registry.first_generation,
+            revision: registry.revision,
+            windows: registry.windows,
+            views: registry.views.into(),
+            surfaces: registry.surfaces.into(),
+            shortcuts: registry.shortcuts.into(),
+            traces: registry.traces.into(),
+        }
     }
 }
 
-pub fn registry_of(memory: RegistryMemory) -> CompositionRegistry
-    ensures { result ≡ registry_of memory }
-{
-    let session = memory.session;
-    let limits = memory.limits;
-    let windows = memory.windows;
-    CompositionRegistry {
-        session,
-        session_epoch: memory.session_epoch,
-        limits,
-        first_generation: memory.first_generation,
-        revision: memory.revision,
-        windows,
-        views: views_of(memory.views),
-        surfaces: surfaces_of(memory.surfaces),
-        shortcuts: shortcuts_of(memory.shortcuts),
-        traces: traces_of(memory.traces),
+impl From<RegistryMemory> for CompositionRegistry {
+    ghost from_gives = { λ memory registry. registry ≡ registry_of memory };
+
+    fn from(memory: RegistryMemory) -> Self {
+        Self {
+            session: memory.session,
+            session_epoch: memory.session_epoch,
+            limits: memory.limits,
+            first_generation: memory.first_generation,
+            revision: memory.revision,
+            windows: memory.windows,
+            views: memory.views.into(),
+            surfaces: memory.surfaces.into(),
+            shortcuts: memory.shortcuts.into(),
+            traces: memory.traces.into(),
+        }
     }
 }

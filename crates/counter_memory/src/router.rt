@@ -1,40 +1,64 @@
 // The router.
+
+#![tactic(auto, unfolding(crate::specs::Router::router_memory, crate::specs::Router::router_of))]
+
 ghost use Rattle.std.specs.Prelude.{◌≡◌};
 ghost use Rattle.counter_memory.specs.Router.{router_memory, router_of};
 
-use crate::bindings::{BindingsMemory, bindings_memory, bindings_of};
+use crate::bindings::BindingsMemory;
 use input_router::router::PlatformInputRouter;
-use maps::sequences::DeviceSequences;
+use lists::table::Table;
+use maps::sequences::{DeviceSequence, DeviceSequences};
+
+// A struct of its own, since C hands in no table with parameters.
+#[repr(C)]
+#[derive(Clone, Copy)]
+pub struct SequencesMemory {
+    pub entries: [DeviceSequence; 32],
+    pub len: usize,
+}
 
 #[repr(C)]
 #[derive(Clone, Copy)]
 pub struct RouterMemory {
     pub max_active_bindings: u64,
     pub last_timestamp_micros: u64,
-    pub device_sequences: DeviceSequences,
+    pub device_sequences: SequencesMemory,
     pub bindings: BindingsMemory,
 }
 
-pub fn router_memory(router: PlatformInputRouter) -> RouterMemory
-    ensures { result ≡ router_memory router }
-{
-    let device_sequences = router.device_sequences;
-    RouterMemory {
-        max_active_bindings: router.max_active_bindings,
-        last_timestamp_micros: router.last_timestamp_micros,
-        device_sequences,
-        bindings: bindings_memory(router.bindings),
+impl From<PlatformInputRouter> for RouterMemory {
+    ghost from_gives = { λ router memory. memory ≡ router_memory router };
+
+    fn from(router: PlatformInputRouter) -> Self {
+        let entries = router.device_sequences.table.items;
+        Self {
+            max_active_bindings: router.max_active_bindings,
+            last_timestamp_micros: router.last_timestamp_micros,
+            device_sequences: SequencesMemory {
+                entries,
+                len: router.device_sequences.table.len,
+            },
+            bindings: router.bindings.into(),
+        }
     }
 }
 
-pub fn router_of(memory: RouterMemory) -> PlatformInputRouter
-    ensures { result ≡ router_of memory }
-{
-    let device_sequences = memory.device_sequences;
-    PlatformInputRouter {
-        max_active_bindings: memory.max_active_bindings,
-        last_timestamp_micros: memory.last_timestamp_micros,
-        device_sequences,
-        bindings: bindings_of(memory.bindings),
+impl From<RouterMemory> for PlatformInputRouter {
+    ghost from_gives = { λ memory router. router ≡ router_of memory };
+
+    fn from(memory: RouterMemory) -> Self {
+        let items = memory.device_sequences.entries;
+        Self {
+            max_active_bindings: memory.max_active_bindings,
+            last_timestamp_micros: memory.last_timestamp_micros,
+            device_sequences: DeviceSequences {
+                table: Table {
+                    items,
+                    len: memory.device_sequences.len,
+                },
+            },
+            bindings: memory.bindings.into(),
+        }
     }
 }

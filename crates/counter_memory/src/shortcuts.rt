@@ -1,9 +1,10 @@
 // The registrations of system shortcuts, and their table.
-ghost use Rattle.std.specs.Prelude.{◌≡◌, map};
+ghost use Rattle.std.specs.Prelude.{◌≡◌};
 ghost use Rattle.counter_memory.specs.Shortcuts.{shortcut_memory, shortcut_of, shortcuts_memory, shortcuts_of};
 
-use crate::choices::{scope_number, scope_of};
-use records::shortcut::{Shortcuts, SlotShortcut, SurfaceShortcutRegistration};
+use crate::arrays::converted;
+use call_fields::numbered::Numbered;
+use records::shortcut::{ShortcutScope, Shortcuts, SlotShortcut, SurfaceShortcutRegistration};
 
 // A registration's fields, beside the slot of its panel.
 #[repr(C)]
@@ -15,6 +16,7 @@ pub struct SlotShortcutMemory {
     pub scope: u8,
 }
 
+// A struct of its own, since C hands in no table with parameters.
 #[repr(C)]
 #[derive(Clone, Copy)]
 pub struct ShortcutsMemory {
@@ -22,73 +24,52 @@ pub struct ShortcutsMemory {
     pub len: usize,
 }
 
-fn shortcut_memory(entry: SlotShortcut) -> SlotShortcutMemory
-    ensures { result ≡ shortcut_memory entry }
-{
-    let registration = entry.registration;
-    let scope = registration.scope;
-    SlotShortcutMemory {
-        class_mask: registration.class_mask,
-        slot: entry.slot,
-        priority: registration.priority,
-        scope: scope_number(scope),
+impl From<SlotShortcut> for SlotShortcutMemory {
+    ghost from_gives = { λ entry memory. memory ≡ shortcut_memory entry };
+
+    fn from(entry: SlotShortcut) -> Self {
+        Self {
+            class_mask: entry.registration.class_mask,
+            slot: entry.slot,
+            priority: entry.registration.priority,
+            scope: entry.registration.scope as u8,
+        }
     }
 }
 
-fn shortcut_of(memory: SlotShortcutMemory) -> SlotShortcut
-    ensures { result ≡ shortcut_of memory }
-{
-    let registration = SurfaceShortcutRegistration {
-        class_mask: memory.class_mask,
-        scope: scope_of(memory.scope),
-        priority: memory.priority,
-    };
-    SlotShortcut {
-        slot: memory.slot,
-        registration,
+impl From<SlotShortcutMemory> for SlotShortcut {
+    ghost from_gives = { λ memory entry. entry ≡ shortcut_of memory };
+
+    fn from(memory: SlotShortcutMemory) -> Self {
+        Self {
+            slot: memory.slot,
+            registration: SurfaceShortcutRegistration {
+                class_mask: memory.class_mask,
+                scope: ShortcutScope::from_number(u64::from(memory.scope)),
+                priority: memory.priority,
+            },
+        }
     }
 }
 
-fn entries_memory(entries: [SlotShortcut; 256]) -> [SlotShortcutMemory; 256]
-    ensures { result ≡ map shortcut_memory entries }
-{
-    let mut memory = [shortcut_memory(entries[0]); 256];
-    let mut i: usize = 0;
-    while i < 256 {
-        memory[i] = shortcut_memory(entries[i]);
-        i += 1;
-    }
-    memory
-}
+impl From<Shortcuts> for ShortcutsMemory {
+    ghost from_gives = { λ shortcuts memory. memory ≡ shortcuts_memory shortcuts };
 
-fn entries_of(memory: [SlotShortcutMemory; 256]) -> [SlotShortcut; 256]
-    ensures { result ≡ map shortcut_of memory }
-{
-    let mut entries = [shortcut_of(memory[0]); 256];
-    let mut i: usize = 0;
-    while i < 256 {
-        entries[i] = shortcut_of(memory[i]);
-        i += 1;
-    }
-    entries
-}
-
-pub fn shortcuts_memory(shortcuts: Shortcuts) -> ShortcutsMemory
-    ensures { result ≡ shortcuts_memory shortcuts }
-{
-    let entries = shortcuts.entries;
-    ShortcutsMemory {
-        entries: entries_memory(entries),
-        len: shortcuts.len,
+    fn from(shortcuts: Shortcuts) -> Self {
+        Self {
+            entries: converted(&shortcuts.items),
+            len: shortcuts.len,
+        }
     }
 }
 
-pub fn shortcuts_of(memory: ShortcutsMemory) -> Shortcuts
-    ensures { result ≡ shortcuts_of memory }
-{
-    let entries = memory.entries;
-    Shortcuts {
-        entries: entries_of(entries),
-        len: memory.len,
+impl From<ShortcutsMemory> for Shortcuts {
+    ghost from_gives = { λ memory shortcuts. shortcuts ≡ shortcuts_of memory };
+
+    fn from(memory: ShortcutsMemory) -> Self {
+        Self {
+            items: converted(&memory.entries),
+            len: memory.len,
+        }
     }
 }

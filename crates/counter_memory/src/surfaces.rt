@@ -1,14 +1,17 @@
 // Panels (the Rust's surfaces): their geometry, their records, and the table of these by slot.
-ghost use Rattle.std.specs.Prelude.{◌≡◌, map};
+ghost use Rattle.std.specs.Prelude.{◌≡◌};
 ghost use Rattle.counter_memory.specs.Surfaces.{geometry_memory, geometry_of, surface_memory, surface_of, surfaces_memory, surfaces_of};
 
-use crate::choices::{kind_number, kind_of, policy_number, policy_of};
-use crate::optionals::{OptionalRectMemory, optional_rect_memory, optional_rect_of};
+use crate::arrays::converted;
+use crate::optionals::OptionalRectMemory;
+use call_fields::numbered::Numbered;
 use geometry::surface::SurfaceGeometry;
 use geometry::transform::SurfaceTransform;
 use handles::GenerationalHandle;
 use handles::arena::Arena;
-use records::surface::{SurfaceDescriptor, SurfaceRecord, SurfaceTable};
+use records::surface::{
+    SurfaceDescriptor, SurfaceInputPolicy, SurfaceKind, SurfaceRecord, SurfaceTable,
+};
 
 #[repr(C)]
 #[derive(Clone, Copy)]
@@ -32,6 +35,7 @@ pub struct SurfaceRecordMemory {
     pub geometry: SurfaceGeometryMemory,
 }
 
+// A struct of its own, since C hands in no table with parameters.
 #[repr(C)]
 #[derive(Clone, Copy)]
 pub struct SurfaceTableMemory {
@@ -39,108 +43,85 @@ pub struct SurfaceTableMemory {
     pub records: [SurfaceRecordMemory; 64],
 }
 
-fn geometry_memory(geometry: SurfaceGeometry) -> SurfaceGeometryMemory
-    ensures { result ≡ geometry_memory geometry }
-{
-    let bounds = geometry.bounds;
-    let clip = geometry.clip;
-    let transform = geometry.transform;
-    SurfaceGeometryMemory {
-        bounds: optional_rect_memory(bounds),
-        clip: optional_rect_memory(clip),
-        transform,
-        opacity_q16: geometry.opacity_q16,
-        hit_test_enabled: geometry.hit_test_enabled,
+impl From<SurfaceGeometry> for SurfaceGeometryMemory {
+    ghost from_gives = { λ geometry memory. memory ≡ geometry_memory geometry };
+
+    fn from(geometry: SurfaceGeometry) -> Self {
+        Self {
+            bounds: geometry.bounds.into(),
+            clip: geometry.clip.into(),
+            transform: geometry.transform,
+            opacity_q16: geometry.opacity_q16,
+            hit_test_enabled: geometry.hit_test_enabled,
+        }
     }
 }
 
-fn geometry_of(memory: SurfaceGeometryMemory) -> SurfaceGeometry
-    ensures { result ≡ geometry_of memory }
-{
-    let transform = memory.transform;
-    SurfaceGeometry {
-        bounds: optional_rect_of(memory.bounds),
-        clip: optional_rect_of(memory.clip),
-        transform,
-        opacity_q16: memory.opacity_q16,
-        hit_test_enabled: memory.hit_test_enabled,
+impl From<SurfaceGeometryMemory> for SurfaceGeometry {
+    ghost from_gives = { λ memory geometry. geometry ≡ geometry_of memory };
+
+    fn from(memory: SurfaceGeometryMemory) -> Self {
+        Self {
+            bounds: memory.bounds.into(),
+            clip: memory.clip.into(),
+            transform: memory.transform,
+            opacity_q16: memory.opacity_q16,
+            hit_test_enabled: memory.hit_test_enabled,
+        }
     }
 }
 
-fn surface_memory(surface: SurfaceRecord) -> SurfaceRecordMemory
-    ensures { result ≡ surface_memory surface }
-{
-    let descriptor = surface.descriptor;
-    let view = descriptor.view;
-    let kind = descriptor.kind;
-    let input = descriptor.input;
-    SurfaceRecordMemory {
-        view,
-        kind: kind_number(kind),
-        z_order: descriptor.z_order,
-        input: policy_number(input),
-        accepts_text: descriptor.accepts_text,
-        geometry: geometry_memory(descriptor.geometry),
+impl From<SurfaceRecord> for SurfaceRecordMemory {
+    ghost from_gives = { λ surface memory. memory ≡ surface_memory surface };
+
+    fn from(surface: SurfaceRecord) -> Self {
+        let descriptor = surface.descriptor;
+        Self {
+            view: descriptor.view,
+            kind: descriptor.kind as u8,
+            z_order: descriptor.z_order,
+            input: descriptor.input as u8,
+            accepts_text: descriptor.accepts_text,
+            geometry: descriptor.geometry.into(),
+        }
     }
 }
 
-fn surface_of(memory: SurfaceRecordMemory) -> SurfaceRecord
-    ensures { result ≡ surface_of memory }
-{
-    let view = memory.view;
-    let descriptor = SurfaceDescriptor {
-        view,
-        kind: kind_of(memory.kind),
-        z_order: memory.z_order,
-        input: policy_of(memory.input),
-        accepts_text: memory.accepts_text,
-        geometry: geometry_of(memory.geometry),
-    };
-    SurfaceRecord { descriptor }
-}
+impl From<SurfaceRecordMemory> for SurfaceRecord {
+    ghost from_gives = { λ memory surface. surface ≡ surface_of memory };
 
-fn records_memory(records: [SurfaceRecord; 64]) -> [SurfaceRecordMemory; 64]
-    ensures { result ≡ map surface_memory records }
-{
-    let mut memory = [surface_memory(records[0]); 64];
-    let mut i: usize = 0;
-    while i < 64 {
-        memory[i] = surface_memory(records[i]);
-        i += 1;
-    }
-    memory
-}
-
-fn records_of(memory: [SurfaceRecordMemory; 64]) -> [SurfaceRecord; 64]
-    ensures { result ≡ map surface_of memory }
-{
-    let mut records = [surface_of(memory[0]); 64];
-    let mut i: usize = 0;
-    while i < 64 {
-        records[i] = surface_of(memory[i]);
-        i += 1;
-    }
-    records
-}
-
-pub fn surfaces_memory(surfaces: SurfaceTable) -> SurfaceTableMemory
-    ensures { result ≡ surfaces_memory surfaces }
-{
-    let arena = surfaces.arena;
-    let records = surfaces.records;
-    SurfaceTableMemory {
-        arena,
-        records: records_memory(records),
+    fn from(memory: SurfaceRecordMemory) -> Self {
+        Self {
+            descriptor: SurfaceDescriptor {
+                view: memory.view,
+                kind: SurfaceKind::from_number(u64::from(memory.kind)),
+                z_order: memory.z_order,
+                input: SurfaceInputPolicy::from_number(u64::from(memory.input)),
+                accepts_text: memory.accepts_text,
+                geometry: memory.geometry.into(),
+            },
+        }
     }
 }
 
-pub fn surfaces_of(memory: SurfaceTableMemory) -> SurfaceTable
-    ensures { result ≡ surfaces_of memory }
-{
-    let arena = memory.arena;
-    let records = memory.records;
-    SurfaceTable {
-        arena,
-        records: records_of(records),
+impl From<SurfaceTable> for SurfaceTableMemory {
+    ghost from_gives = { λ surfaces memory. memory ≡ surfaces_memory surfaces };
+
+    fn from(surfaces: SurfaceTable) -> Self {
+        Self {
+            arena: surfaces.arena,
+            records: converted(&surfaces.records),
+        }
+    }
+}
+
+impl From<SurfaceTableMemory> for SurfaceTable {
+    ghost from_gives = { λ memory surfaces. surfaces ≡ surfaces_of memory };
+
+    fn from(memory: SurfaceTableMemory) -> Self {
+        Self {
+            arena: memory.arena,
+            records: converted(&memory.records),
+        }
     }
 }

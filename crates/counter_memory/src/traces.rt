@@ -1,11 +1,27 @@
 // The last arbitrations, and their table.
-ghost use Rattle.std.specs.Prelude.{◌≡◌, map};
+// The tables are structs of their own, since C hands in none with parameters.
+ghost use Rattle.std.specs.Prelude.{◌≡◌};
 ghost use Rattle.counter_memory.specs.Traces.{trace_memory, trace_of, traces_memory, traces_of};
 
-use crate::events::{ArbitrationEventMemory, event_memory, event_of};
-use crate::optionals::{OptionalHandleMemory, optional_handle_memory, optional_handle_of};
+use crate::arrays::converted;
+use crate::events::ArbitrationEventMemory;
+use crate::optionals::OptionalHandleMemory;
 use handles::GenerationalHandle;
-use records::trace::{CompositionTrace, Deliveries, Hits, Traces};
+use records::trace::{CompositionTrace, Deliveries, Hits, InputDelivery, Traces};
+
+#[repr(C)]
+#[derive(Clone, Copy)]
+pub struct HitsMemory {
+    pub items: [GenerationalHandle; 16],
+    pub len: usize,
+}
+
+#[repr(C)]
+#[derive(Clone, Copy)]
+pub struct DeliveriesMemory {
+    pub items: [InputDelivery; 16],
+    pub len: usize,
+}
 
 #[repr(C)]
 #[derive(Clone, Copy)]
@@ -13,8 +29,8 @@ pub struct CompositionTraceMemory {
     pub revision: u64,
     pub view: GenerationalHandle,
     pub event: ArbitrationEventMemory,
-    pub hits: Hits,
-    pub deliveries: Deliveries,
+    pub hits: HitsMemory,
+    pub deliveries: DeliveriesMemory,
     pub consumed_by: OptionalHandleMemory,
 }
 
@@ -25,80 +41,70 @@ pub struct TracesMemory {
     pub len: usize,
 }
 
-fn trace_memory(trace: CompositionTrace) -> CompositionTraceMemory
-    ensures { result ≡ trace_memory trace }
-{
-    let view = trace.view;
-    let event = trace.event;
-    let hits = trace.hits;
-    let deliveries = trace.deliveries;
-    let consumed_by = trace.consumed_by;
-    CompositionTraceMemory {
-        revision: trace.revision,
-        view,
-        event: event_memory(event),
-        hits,
-        deliveries,
-        consumed_by: optional_handle_memory(consumed_by),
+impl From<CompositionTrace> for CompositionTraceMemory {
+    ghost from_gives = { λ trace memory. memory ≡ trace_memory trace };
+
+    fn from(trace: CompositionTrace) -> Self {
+        let hits = trace.hits.items;
+        let deliveries = trace.deliveries.items;
+        Self {
+            revision: trace.revision,
+            view: trace.view,
+            event: trace.event.into(),
+            hits: HitsMemory {
+                items: hits,
+                len: trace.hits.len,
+            },
+            deliveries: DeliveriesMemory {
+                items: deliveries,
+                len: trace.deliveries.len,
+            },
+            consumed_by: trace.consumed_by.into(),
+        }
     }
 }
 
-fn trace_of(memory: CompositionTraceMemory) -> CompositionTrace
-    ensures { result ≡ trace_of memory }
-{
-    let view = memory.view;
-    let hits = memory.hits;
-    let deliveries = memory.deliveries;
-    CompositionTrace {
-        revision: memory.revision,
-        view,
-        event: event_of(memory.event),
-        hits,
-        deliveries,
-        consumed_by: optional_handle_of(memory.consumed_by),
+impl From<CompositionTraceMemory> for CompositionTrace {
+    ghost from_gives = { λ memory trace. trace ≡ trace_of memory };
+
+    fn from(memory: CompositionTraceMemory) -> Self {
+        let hits = memory.hits.items;
+        let deliveries = memory.deliveries.items;
+        Self {
+            revision: memory.revision,
+            view: memory.view,
+            event: memory.event.into(),
+            hits: Hits {
+                items: hits,
+                len: memory.hits.len,
+            },
+            deliveries: Deliveries {
+                items: deliveries,
+                len: memory.deliveries.len,
+            },
+            consumed_by: memory.consumed_by.into(),
+        }
     }
 }
 
-fn items_memory(items: [CompositionTrace; 32]) -> [CompositionTraceMemory; 32]
-    ensures { result ≡ map trace_memory items }
-{
-    let mut memory = [trace_memory(items[0]); 32];
-    let mut i: usize = 0;
-    while i < 32 {
-        memory[i] = trace_memory(items[i]);
-        i += 1;
-    }
-    memory
-}
+impl From<Traces> for TracesMemory {
+    ghost from_gives = { λ traces memory. memory ≡ traces_memory traces };
 
-fn items_of(memory: [CompositionTraceMemory; 32]) -> [CompositionTrace; 32]
-    ensures { result ≡ map trace_of memory }
-{
-    let mut items = [trace_of(memory[0]); 32];
-    let mut i: usize = 0;
-    while i < 32 {
-        items[i] = trace_of(memory[i]);
-        i += 1;
-    }
-    items
-}
-
-pub fn traces_memory(traces: Traces) -> TracesMemory
-    ensures { result ≡ traces_memory traces }
-{
-    let items = traces.items;
-    TracesMemory {
-        items: items_memory(items),
-        len: traces.len,
+    fn from(traces: Traces) -> Self {
+        Self {
+            items: converted(&traces.items),
+            len: traces.len,
+        }
     }
 }
 
-pub fn traces_of(memory: TracesMemory) -> Traces
-    ensures { result ≡ traces_of memory }
-{
-    let items = memory.items;
-    Traces {
-        items: items_of(items),
-        len: memory.len,
+impl From<TracesMemory> for Traces {
+    ghost from_gives = { λ memory traces. traces ≡ traces_of memory };
+
+    fn from(memory: TracesMemory) -> Self {
+        Self {
+            items: converted(&memory.items),
+            len: memory.len,
+        }
     }
 }

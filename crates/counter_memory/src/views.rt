@@ -1,13 +1,16 @@
 // Views: their metrics, their records, and the table of these by slot.
-ghost use Rattle.std.specs.Prelude.{◌≡◌, map};
+// The tables are structs of their own, since C hands in none with parameters.
+ghost use Rattle.std.specs.Prelude.{◌≡◌};
 ghost use Rattle.counter_memory.specs.Views.{metrics_memory, metrics_of, view_memory, view_of, views_memory, views_of};
 
-use crate::choices::{visibility_number, visibility_of};
-use crate::optionals::{OptionalHandleMemory, optional_handle_memory, optional_handle_of};
-use geometry::metrics::{ViewInsets, ViewMetrics};
+use crate::arrays::converted;
+use crate::optionals::OptionalHandleMemory;
+use call_fields::numbered::Numbered;
+use geometry::metrics::{ViewInsets, ViewMetrics, ViewVisibility};
 use handles::GenerationalHandle;
 use handles::arena::Arena;
-use maps::captures::PointerCaptures;
+use lists::table::Table;
+use maps::captures::{Capture, PointerCaptures};
 use records::layers::Layers;
 use records::view::{ViewRecord, ViewTable};
 
@@ -28,13 +31,27 @@ pub struct ViewMetricsMemory {
 
 #[repr(C)]
 #[derive(Clone, Copy)]
+pub struct LayersMemory {
+    pub items: [GenerationalHandle; 16],
+    pub len: usize,
+}
+
+#[repr(C)]
+#[derive(Clone, Copy)]
+pub struct CapturesMemory {
+    pub entries: [Capture; 32],
+    pub len: usize,
+}
+
+#[repr(C)]
+#[derive(Clone, Copy)]
 pub struct ViewRecordMemory {
     pub window: GenerationalHandle,
     pub metrics: ViewMetricsMemory,
-    pub surfaces: Layers,
+    pub surfaces: LayersMemory,
     pub focus: OptionalHandleMemory,
     pub pointer_capture: OptionalHandleMemory,
-    pub pointer_captures: PointerCaptures,
+    pub pointer_captures: CapturesMemory,
     pub ime: OptionalHandleMemory,
 }
 
@@ -45,122 +62,112 @@ pub struct ViewTableMemory {
     pub records: [ViewRecordMemory; 16],
 }
 
-fn metrics_memory(metrics: ViewMetrics) -> ViewMetricsMemory
-    ensures { result ≡ metrics_memory metrics }
-{
-    let safe_area = metrics.safe_area;
-    let visibility = metrics.visibility;
-    ViewMetricsMemory {
-        revision: metrics.revision,
-        origin_x_milli: metrics.origin_x_milli,
-        origin_y_milli: metrics.origin_y_milli,
-        width_milli: metrics.width_milli,
-        height_milli: metrics.height_milli,
-        framebuffer_width: metrics.framebuffer_width,
-        framebuffer_height: metrics.framebuffer_height,
-        scale_q16: metrics.scale_q16,
-        safe_area,
-        visibility: visibility_number(visibility),
+impl From<ViewMetrics> for ViewMetricsMemory {
+    ghost from_gives = { λ metrics memory. memory ≡ metrics_memory metrics };
+
+    fn from(metrics: ViewMetrics) -> Self {
+        Self {
+            revision: metrics.revision,
+            origin_x_milli: metrics.origin_x_milli,
+            origin_y_milli: metrics.origin_y_milli,
+            width_milli: metrics.width_milli,
+            height_milli: metrics.height_milli,
+            framebuffer_width: metrics.framebuffer_width,
+            framebuffer_height: metrics.framebuffer_height,
+            scale_q16: metrics.scale_q16,
+            safe_area: metrics.safe_area,
+            visibility: metrics.visibility as u8,
+        }
     }
 }
 
-fn metrics_of(memory: ViewMetricsMemory) -> ViewMetrics
-    ensures { result ≡ metrics_of memory }
-{
-    let safe_area = memory.safe_area;
-    ViewMetrics {
-        revision: memory.revision,
-        origin_x_milli: memory.origin_x_milli,
-        origin_y_milli: memory.origin_y_milli,
-        width_milli: memory.width_milli,
-        height_milli: memory.height_milli,
-        framebuffer_width: memory.framebuffer_width,
-        framebuffer_height: memory.framebuffer_height,
-        scale_q16: memory.scale_q16,
-        safe_area,
-        visibility: visibility_of(memory.visibility),
+impl From<ViewMetricsMemory> for ViewMetrics {
+    ghost from_gives = { λ memory metrics. metrics ≡ metrics_of memory };
+
+    fn from(memory: ViewMetricsMemory) -> Self {
+        Self {
+            revision: memory.revision,
+            origin_x_milli: memory.origin_x_milli,
+            origin_y_milli: memory.origin_y_milli,
+            width_milli: memory.width_milli,
+            height_milli: memory.height_milli,
+            framebuffer_width: memory.framebuffer_width,
+            framebuffer_height: memory.framebuffer_height,
+            scale_q16: memory.scale_q16,
+            safe_area: memory.safe_area,
+            visibility: ViewVisibility::from_number(u64::from(memory.visibility)),
+        }
     }
 }
 
-fn view_memory(view: ViewRecord) -> ViewRecordMemory
-    ensures { result ≡ view_memory view }
-{
-    let window = view.window;
-    let surfaces = view.surfaces;
-    let focus = view.focus;
-    let pointer_capture = view.pointer_capture;
-    let pointer_captures = view.pointer_captures;
-    let ime = view.ime;
-    ViewRecordMemory {
-        window,
-        metrics: metrics_memory(view.metrics),
-        surfaces,
-        focus: optional_handle_memory(focus),
-        pointer_capture: optional_handle_memory(pointer_capture),
-        pointer_captures,
-        ime: optional_handle_memory(ime),
+impl From<ViewRecord> for ViewRecordMemory {
+    ghost from_gives = { λ view memory. memory ≡ view_memory view };
+
+    fn from(view: ViewRecord) -> Self {
+        let layers = view.surfaces.items;
+        let captures = view.pointer_captures.table.items;
+        Self {
+            window: view.window,
+            metrics: view.metrics.into(),
+            surfaces: LayersMemory {
+                items: layers,
+                len: view.surfaces.len,
+            },
+            focus: view.focus.into(),
+            pointer_capture: view.pointer_capture.into(),
+            pointer_captures: CapturesMemory {
+                entries: captures,
+                len: view.pointer_captures.table.len,
+            },
+            ime: view.ime.into(),
+        }
     }
 }
 
-fn view_of(memory: ViewRecordMemory) -> ViewRecord
-    ensures { result ≡ view_of memory }
-{
-    let window = memory.window;
-    let surfaces = memory.surfaces;
-    let pointer_captures = memory.pointer_captures;
-    ViewRecord {
-        window,
-        metrics: metrics_of(memory.metrics),
-        surfaces,
-        focus: optional_handle_of(memory.focus),
-        pointer_capture: optional_handle_of(memory.pointer_capture),
-        pointer_captures,
-        ime: optional_handle_of(memory.ime),
+impl From<ViewRecordMemory> for ViewRecord {
+    ghost from_gives = { λ memory view. view ≡ view_of memory };
+
+    fn from(memory: ViewRecordMemory) -> Self {
+        let layers = memory.surfaces.items;
+        let captures = memory.pointer_captures.entries;
+        Self {
+            window: memory.window,
+            metrics: memory.metrics.into(),
+            surfaces: Layers {
+                items: layers,
+                len: memory.surfaces.len,
+            },
+            focus: memory.focus.into(),
+            pointer_capture: memory.pointer_capture.into(),
+            pointer_captures: PointerCaptures {
+                table: Table {
+                    items: captures,
+                    len: memory.pointer_captures.len,
+                },
+            },
+            ime: memory.ime.into(),
+        }
     }
 }
 
-fn records_memory(records: [ViewRecord; 16]) -> [ViewRecordMemory; 16]
-    ensures { result ≡ map view_memory records }
-{
-    let mut memory = [view_memory(records[0]); 16];
-    let mut i: usize = 0;
-    while i < 16 {
-        memory[i] = view_memory(records[i]);
-        i += 1;
-    }
-    memory
-}
+impl From<ViewTable> for ViewTableMemory {
+    ghost from_gives = { λ views memory. memory ≡ views_memory views };
 
-fn records_of(memory: [ViewRecordMemory; 16]) -> [ViewRecord; 16]
-    ensures { result ≡ map view_of memory }
-{
-    let mut records = [view_of(memory[0]); 16];
-    let mut i: usize = 0;
-    while i < 16 {
-        records[i] = view_of(memory[i]);
-        i += 1;
-    }
-    records
-}
-
-pub fn views_memory(views: ViewTable) -> ViewTableMemory
-    ensures { result ≡ views_memory views }
-{
-    let arena = views.arena;
-    let records = views.records;
-    ViewTableMemory {
-        arena,
-        records: records_memory(records),
+    fn from(views: ViewTable) -> Self {
+        Self {
+            arena: views.arena,
+            records: converted(&views.records),
+        }
     }
 }
 
-pub fn views_of(memory: ViewTableMemory) -> ViewTable
-    ensures { result ≡ views_of memory }
-{
-    let arena = memory.arena;
-    let records = memory.records;
-    ViewTable {
-        arena,
-        records: records_of(records),
+impl From<ViewTableMemory> for ViewTable {
+    ghost from_gives = { λ memory views. views ≡ views_of memory };
+
+    fn from(memory: ViewTableMemory) -> Self {
+        Self {
+            arena: memory.arena,
+            records: converted(&memory.records),
+        }
     }
 }

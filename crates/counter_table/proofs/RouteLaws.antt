@@ -1,45 +1,46 @@
 -- An event that passes the tests before its payload's is answered the payload's number; and it goes on to its work if that is 0 and the tests after it pass.
+use Rattle.std.specs.Prelude.{Ok, Err}
+use Rattle.std.specs.Result.{result_and}
 use Prim.Native.Nat.{ℕ}
 use mathlib.Core.Path.{◌≡◌, refl, sym, ap, ◌∙◌}
 use mathlib.Core.Bool.{false}
 use lib.Dec.{eqb, ltb}
 use native.Mathlib.Omega.{arith}
 use Rattle.composition_state.specs.declared.registry.CompositionRegistry.{CompositionRegistry}
-use Rattle.input_events.specs.declared.error.RouterOutcome.{RouterOutcome}
-use Rattle.input_events.specs.declared.error.RouterOutcome.TheVariants.{Accepted, Refused}
 use Rattle.input_events.specs.declared.event.CompositionInput.{CompositionInput}
 use Rattle.input_events.specs.declared.event.PlatformInputEvent.{PlatformInputEvent}
 use Rattle.input_events.specs.declared.event.PlatformInputPayload.{PlatformInputPayload}
 use Rattle.input_events.specs.declared.event.PlatformInputPayload.TheVariants.{Pointer, Composition}
 use Rattle.input_events.specs.declared.event.PointerInput.{PointerInput}
 use Rattle.input_events.specs.Checks.{payload_refusal, event_refusal}
-use Rattle.input_events.specs.RouterErrors.{router_number_of, then_router_refusal}
+use Rattle.input_events.specs.RouterErrors.{router_number_of, RouterOutcome}
 use Rattle.input_events.proofs.ClaimLaws as events
 use Rattle.input_router.specs.declared.router.PlatformInputRouter.{PlatformInputRouter}
 use Rattle.input_route.specs.Checks.{room_refusal, order_refusal, route_refusal}
 use Rattle.input_route.specs.Route.{routed_after, routed}
 use Rattle.counter_table.specs.Routes.{route_number, Arrives, Fits, Passes, PressureRouted, TiltRouted, SelectionRouted}
+use Rattle.input_releases.specs.Answers.{routed_outcome}
 
 module _ (r : CompositionRegistry) (t : PlatformInputRouter) (e : PlatformInputEvent) (x : Arrives r t e) where
   -- what is left of the checks
-  payload_first : route_refusal r t e ≡ then_router_refusal (payload_refusal e.payload) (then_router_refusal (room_refusal t e) (order_refusal t e.header))
+  payload_first : route_refusal r t e ≡ result_and (payload_refusal e.payload) (result_and (room_refusal t e) (order_refusal t e.header))
   unfolding route_refusal event_refusal
   payload_first = rw (x.registry, x.router, x.device, x.header)
 
-  stops : (o rest : RouterOutcome) → (router_number_of o ≡ 0 → ⊥) → router_number_of (routed_after r t e (then_router_refusal o rest)).outcome ≡ router_number_of o
-  stops Accepted rest n = absurd (n refl)
-  stops (Refused y) rest n = refl
+  stops : (o rest : RouterOutcome) → (router_number_of o ≡ 0 → ⊥) → router_number_of (routed_outcome (routed_after r t e (result_and o rest))) ≡ router_number_of o
+  stops (Ok _) rest n = absurd (n refl)
+  stops (Err y) rest n = refl
 
   refused : (n : ℕ) → (n ≡ 0 → ⊥) → router_number_of (payload_refusal e.payload) ≡ n → route_number r t e ≡ n
   unfolding routed
   refused n some q =
-      ap (λ (o : RouterOutcome). router_number_of (routed_after r t e o).outcome) payload_first
+      ap (λ (o : RouterOutcome). router_number_of (routed_outcome (routed_after r t e o))) payload_first
       ∙ stops (payload_refusal e.payload) _ (λ z. some (sym q ∙ z)) ∙ q
 
-  passes : Fits t e → payload_refusal e.payload ≡ Accepted → Passes r t e
+  passes : Fits t e → payload_refusal e.payload ≡ Ok tt → Passes r t e
   unfolding routed
   passes y q =
-      let all : route_refusal r t e ≡ Accepted = payload_first ∙ rw (q, y.room, y.order) in
+      let all : route_refusal r t e ≡ Ok tt = payload_first ∙ rw (q, y.room, y.order) in
       ap (routed_after r t e) all
 
   -- ---- the rows, of a payload that is known
@@ -47,7 +48,7 @@ module _ (r : CompositionRegistry) (t : PlatformInputRouter) (e : PlatformInputE
     number_of : (n : ℕ) → (n ≡ 0 → ⊥) → router_number_of (payload_refusal (Pointer p)) ≡ n → route_number r t e ≡ n
     number_of n some q = refused n some (ap (λ (z : PlatformInputPayload). router_number_of (payload_refusal z)) is ∙ q)
 
-    pass : Fits t e → payload_refusal (Pointer p) ≡ Accepted → Passes r t e
+    pass : Fits t e → payload_refusal (Pointer p) ≡ Ok tt → Passes r t e
     pass z q = passes z (ap payload_refusal is ∙ q)
 
     pub pressure_routed : PressureRouted r t e p

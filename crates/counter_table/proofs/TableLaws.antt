@@ -1,4 +1,5 @@
 -- The table holds: each line is claimed of its definition in the crate that has it, and the close leaves its view as the detached record.
+use Rattle.std.specs.Prelude.{None, Some, Ok, Err}
 use mathlib.Core.Path.{◌≡◌, refl, sym, ap, subst, ◌∙◌}
 use mathlib.Core.Bool.{true, false}
 use borrow.Author.Tests.{eq-eqb}
@@ -6,20 +7,17 @@ use Rattle.lists.proofs.ListLaws.{clash}
 use Rattle.geometry.proofs.Claims as geometry
 use Rattle.handles.specs.declared.arena.SlotStatus.TheVariants.{Live}
 use Rattle.handles.specs.declared.GenerationalHandle.{GenerationalHandle}
-use Rattle.handles.specs.declared.OptionalHandle.TheVariants.{None, Some}
 use Rattle.handles.specs.Handles.{same_handle}
 use Rattle.maps.specs.declared.keys.CompositionPointerId.{CompositionPointerId}
 use Rattle.records.specs.declared.error.CompositionError.TheVariants.{InvalidView, StaleView}
-use Rattle.records.specs.declared.error.Outcome.{Outcome}
-use Rattle.records.specs.declared.error.Outcome.TheVariants.{Accepted, Refused}
 use Rattle.composition_state.specs.declared.registry.CompositionRegistry.{CompositionRegistry}
 use Rattle.records.specs.declared.view.ViewRecord.{ViewRecord}
 use Rattle.composition_state.specs.Damage.{is_sound, damage_refusal}
-use Rattle.records.specs.Errors.{number_of}
+use Rattle.records.specs.Errors.{number_of, Outcome}
 use Rattle.records.specs.Layers.{is_live}
 use Rattle.records.specs.Surfaces.{surface_status, surface_refusal}
 use Rattle.records.specs.Views.{view_at, view_status}
-use Rattle.composition_state.proofs.SettleLaws.{then_last, accepted_is}
+use Rattle.composition_state.proofs.SettleLaws.{without_value, then_last, accepted_is}
 use Rattle.composition_input.specs.Captures.{primary}
 use Rattle.composition_input.specs.Focus.{own_view, set_focus}
 use Rattle.composition_shortcuts.proofs.ClaimLaws as shortcuts
@@ -35,6 +33,7 @@ use Rattle.registry_book.proofs.HeldLaws.{apart}
 use Rattle.registry_book.proofs.ViewLaws.{record_own}
 use Rattle.counter_table.proofs.RouteLaws.{pressure_routed, tilt_routed, selection_routed}
 use Rattle.counter_table.specs.Table.{before, after, CounterTable}
+use Rattle.composition_state.specs.Registry.{outcome_of}
 
 -- a live view is none that is not
 other_view : (r : CompositionRegistry) (view own : GenerationalHandle) → is_live (view_status r.views own) ≡ true → is_live (view_status r.views view) ≡ false → same_handle own view ≡ false
@@ -48,23 +47,23 @@ unknown_view_lem r view h sound live own unknown = rw (sound, eq-eqb r.revision 
 
 module _ (r : CompositionRegistry) (p : Parts r) (a : GenerationalHandle) where
   -- the close found its view live
-  live_view : (o : Outcome) → close_refusal r a ≡ o → (close_after o r a).outcome ≡ Accepted → view_status r.views (own_view r a) ≡ Live
-  live_view Accepted q y = status_live (view_status r.views (own_view r a)) InvalidView StaleView (then_last (surface_refusal r.surfaces a) _ (then_last (damage_refusal r) _ q))
-  live_view (Refused e) q y = refused≢accepted y
+  live_view : (o : Outcome) → close_refusal r a ≡ o → outcome_of (close_after o r a) ≡ Ok tt → view_status r.views (own_view r a) ≡ Live
+  live_view (Ok _) q y = status_live (view_status r.views (own_view r a)) InvalidView StaleView (then_last (surface_refusal r.surfaces a) _ (then_last (damage_refusal r) _ q))
+  live_view (Err e) q y = refused≢accepted y
 
   -- an accepted close leaves the view's detached record
-  left : (o : Outcome) → close_refusal r a ≡ o → (close_after o r a).outcome ≡ Accepted → view_at (close_after o r a).registry.views (own_view r a) ≡ detached_view r.surfaces (before r a) a
+  left : (o : Outcome) → close_refusal r a ≡ o → outcome_of (close_after o r a) ≡ Ok tt → view_at (close_after o r a).registry.views (own_view r a) ≡ detached_view r.surfaces (before r a) a
   unfolding close_settled freed detached
-  left Accepted q y =
-      ap (λ (x : CompositionRegistry). view_at x.views (own_view r a)) (accepted_is (slot_refusal r a) (detached a r) (closed_panel a r) y)
-      ∙ record_own r p (own_view r a) (live_view Accepted q y) (detached_view r.surfaces (before r a) a)
-  left (Refused e) q y = refused≢accepted y
+  left (Ok _) q y =
+      ap (λ (x : CompositionRegistry). view_at x.views (own_view r a)) (accepted_is (slot_refusal r a) (detached a r) (closed_panel a r) (sym (without_value _ _) ∙ y))
+      ∙ record_own r p (own_view r a) (live_view (Ok tt) q y) (detached_view r.surfaces (before r a) a)
+  left (Err e) q y = refused≢accepted y
 
-  closed : (close_surface r a).outcome ≡ Accepted → after r a ≡ detached_view r.surfaces (before r a) a
+  closed : outcome_of (close_surface r a) ≡ Ok tt → after r a ≡ detached_view r.surfaces (before r a) a
   unfolding close_surface
   closed y = left (close_refusal r a) refl y
 
-  closes_apart : (close_surface r a).outcome ≡ Accepted → (b : GenerationalHandle) (q : CompositionPointerId) → same_handle a b ≡ false → Holds (before r a) q a → Holds (before r a) primary b
+  closes_apart : outcome_of (close_surface r a) ≡ Ok tt → (b : GenerationalHandle) (q : CompositionPointerId) → same_handle a b ≡ false → Holds (before r a) q a → Holds (before r a) primary b
       → ((after r a).pointer_capture ≡ None) × Holds (after r a) primary b
   unfolding close_surface
   closes_apart y b q other has-a has-b =

@@ -1,5 +1,5 @@
 -- Registries that calls from a start lead to, in which the counter table's lines about registries can be seen.
-use Rattle.std.specs.Prelude.{ℕ, false, [], ◌∷◌, ℤ, pos, replicate}
+use Rattle.std.specs.Prelude.{ℕ, false, [], ◌∷◌, ℤ, pos, replicate, None, Some}
 use Rattle.lists.specs.Tables.{packed}
 use Rattle.geometry.specs.Surface.{default_geometry}
 use Rattle.handles.specs.declared.GenerationalHandle.{GenerationalHandle}
@@ -13,11 +13,10 @@ use Rattle.composition_state.specs.Start.{started}
 use Rattle.composition_panels.specs.Panels.{attach_surface}
 use Rattle.composition_panels.specs.Windows.{create_window, create_view}
 use Rattle.composition_input.specs.Captures.{primary, capture_pointer_for}
-use Rattle.composition_shortcuts.specs.declared.register.Registrations.{Registrations}
+use Rattle.composition_shortcuts.specs.Registrations.{Registrations}
 use Rattle.composition_shortcuts.specs.Register.{registrations}
 use Rattle.input_events.specs.declared.event.CompositionPhase.TheVariants as phase
 use Rattle.input_events.specs.declared.event.InputDeviceKind.TheVariants.{Pen}
-use Rattle.input_events.specs.declared.event.OptionalButton.TheVariants as button
 use Rattle.input_events.specs.declared.event.PlatformInputEvent.{PlatformInputEvent}
 use Rattle.input_events.specs.declared.event.PlatformInputPayload.{PlatformInputPayload}
 use Rattle.input_events.specs.declared.event.PlatformInputPayload.TheVariants.{Pointer, Composition}
@@ -120,7 +119,7 @@ pressed pressure x y = event (Pointer (record {
   tilt_x_degrees = x;
   tilt_y_degrees = y;
   buttons = 0;
-  changed_button = button.None;
+  changed_button = None;
 }))
 
 -- a composition of 3 bytes with a selection

@@ -1,9 +1,8 @@
 -- RULES.md, Counter table: the rows of pressure, tilt and selection, of what `route` answers to the event.
-use Rattle.std.specs.Prelude.{ℕ, ◌≡◌, true, pos, neg_ℤ}
+use Rattle.std.specs.Prelude.{ℕ, ◌≡◌, true, pos, neg_ℤ, Ok}
 use Rattle.maps.specs.Keys.{device_valid}
 use Rattle.composition_state.specs.declared.registry.CompositionRegistry.{CompositionRegistry}
 use Rattle.composition_state.specs.Damage.{is_sound}
-use Rattle.input_events.specs.declared.error.RouterOutcome.TheVariants.{Accepted}
 use Rattle.input_events.specs.declared.event.CompositionInput.{CompositionInput}
 use Rattle.input_events.specs.declared.event.PlatformInputEvent.{PlatformInputEvent}
 use Rattle.input_events.specs.declared.event.PointerInput.{PointerInput}
@@ -13,22 +12,23 @@ use Rattle.input_router.specs.declared.router.PlatformInputRouter.{PlatformInput
 use Rattle.input_router.specs.Damage.{is_router_sound}
 use Rattle.input_route.specs.Checks.{room_refusal, order_refusal}
 use Rattle.input_route.specs.Route.{recorded_event, routed_payload, routed}
+use Rattle.input_releases.specs.Answers.{routed_outcome}
 
 -- REFUSALS.md's number of an event's answer
 abbrev pub route_number : CompositionRegistry → PlatformInputRouter → PlatformInputEvent → ℕ
-route_number r t e = router_number_of (routed r t e).outcome
+route_number r t e = router_number_of (routed_outcome (routed r t e))
 
 -- the event passes what `route` tests before the payload: 42, 31, 8/9, 39, 20
 pub record Arrives (r : CompositionRegistry) (t : PlatformInputRouter) (e : PlatformInputEvent) : Type 0 where
   pub registry : is_sound r ≡ true
   pub router : is_router_sound t ≡ true
   pub device : device_valid e.header.device ≡ true
-  pub header : header_refusal r.views e.header ≡ Accepted
+  pub header : header_refusal r.views e.header ≡ Ok tt
 
 -- and what it tests after the payload: 40, 32, 33, 41
 pub record Fits (t : PlatformInputRouter) (e : PlatformInputEvent) : Type 0 where
-  pub room : room_refusal t e ≡ Accepted
-  pub order : order_refusal t e.header ≡ Accepted
+  pub room : room_refusal t e ≡ Ok tt
+  pub order : order_refusal t e.header ≡ Ok tt
 
 -- the event passes every test: it is recorded and goes on to its work
 abbrev pub Passes : CompositionRegistry → PlatformInputRouter → PlatformInputEvent → Type 0

@@ -1,18 +1,15 @@
 -- RULES.md, Counter table: its nine lines as one statement about the definitions that the contracts cite.
-use Rattle.std.specs.Prelude.{◌≡◌, true, false, [], ◌∷◌, eqb, ltb, ℤ, pos, neg_ℤ}
+use Rattle.std.specs.Prelude.{◌≡◌, true, false, [], ◌∷◌, eqb, ltb, ℤ, pos, neg_ℤ, Some, None, Ok}
 use Rattle.lists.specs.Tables.{packed}
 use Rattle.lists.specs.Numbers.{max_u64}
-use Rattle.geometry.specs.declared.transform.LocalPoint.TheVariants.{At, Skipped}
 use Rattle.geometry.specs.Claims.{from_minus500, scale, cancelling, geometry_with, point}
 use Rattle.geometry.specs.Rect.{contains}
 use Rattle.geometry.specs.Surface.{is_valid_geometry}
 use Rattle.geometry.specs.Transform.{inverse_point}
 use Rattle.handles.specs.declared.arena.SlotStatus.TheVariants.{Live}
 use Rattle.handles.specs.declared.GenerationalHandle.{GenerationalHandle}
-use Rattle.handles.specs.declared.OptionalHandle.TheVariants.{None, Some}
 use Rattle.handles.specs.Handles.{same_handle}
 use Rattle.maps.specs.declared.keys.CompositionPointerId.{CompositionPointerId}
-use Rattle.records.specs.declared.error.Outcome.TheVariants.{Accepted}
 use Rattle.composition_state.specs.declared.registry.CompositionRegistry.{CompositionRegistry}
 use Rattle.records.specs.declared.shortcut.SurfaceShortcutRegistration.{SurfaceShortcutRegistration}
 use Rattle.records.specs.declared.view.ViewRecord.{ViewRecord}
@@ -23,7 +20,7 @@ use Rattle.records.specs.Surfaces.{surface_status}
 use Rattle.records.specs.Views.{view_at, view_status}
 use Rattle.composition_input.specs.Captures.{primary}
 use Rattle.composition_input.specs.Focus.{own_view, set_focus}
-use Rattle.composition_shortcuts.specs.declared.register.Registrations.{Registrations}
+use Rattle.composition_shortcuts.specs.Registrations.{Registrations}
 use Rattle.composition_shortcuts.specs.Claims.{Observing, set_number}
 use Rattle.composition_shortcuts.specs.Register.{registrations}
 use Rattle.composition_close.specs.Claims.{Holds}
@@ -37,6 +34,7 @@ use Rattle.input_events.specs.Claims.{PressureRows, TiltRows, SelectionRows}
 use Rattle.input_router.specs.declared.router.PlatformInputRouter.{PlatformInputRouter}
 use Rattle.counter_table.specs.Routes.{route_number, Arrives, Fits, PressureRouted, TiltRouted, SelectionRouted}
 use Rattle.counter_table.specs.Examples.{panel_a, panel_b, watched, sixty_five, one_listed, contact_nine, held, unknown_view, new_router, pressed, selected}
+use Rattle.composition_state.specs.Registry.{outcome_of}
 
 -- the record of a panel's own view before the panel's close
 abbrev pub before : CompositionRegistry → GenerationalHandle → ViewRecord
@@ -54,14 +52,14 @@ pub record CounterTable : Type 0 where
       × (contains from_minus500 (neg_ℤ (pos 501)) (pos 0) ≡ false)
       × (contains from_minus500 (pos 500) (pos 0) ≡ false)
   -- "Scale 131,072 both ways: x 5 becomes 3, x -5 becomes -3."
-  pub double_scale : (inverse_point (scale (pos 131072)) (pos 5) (pos 0) ≡ At (point (pos 3) (pos 0)))
-      × (inverse_point (scale (pos 131072)) (neg_ℤ (pos 5)) (pos 0) ≡ At (point (neg_ℤ (pos 3)) (pos 0)))
+  pub double_scale : (inverse_point (scale (pos 131072)) (pos 5) (pos 0) ≡ Some (point (pos 3) (pos 0)))
+      × (inverse_point (scale (pos 131072)) (neg_ℤ (pos 5)) (pos 0) ≡ Some (point (neg_ℤ (pos 3)) (pos 0)))
   -- "Scale 1 both ways: x 32,767 becomes 2,147,418,112; x 32,768 is skipped."
-  pub least_scale : (inverse_point (scale (pos 1)) (pos 32767) (pos 0) ≡ At (point (pos 2147418112) (pos 0)))
-      × (inverse_point (scale (pos 1)) (pos 32768) (pos 0) ≡ Skipped)
+  pub least_scale : (inverse_point (scale (pos 1)) (pos 32767) (pos 0) ≡ Some (point (pos 2147418112) (pos 0)))
+      × (inverse_point (scale (pos 1)) (pos 32768) (pos 0) ≡ None)
   -- "m11 = m22 = 134,217,728, m12 = 134,217,729, m21 = 134,217,727: geometry accepted, always skipped."
   pub cancelling_matrix : (tx ty : ℤ) → (is_valid_geometry (geometry_with (cancelling tx ty)) ≡ true)
-      × ((x y : ℤ) → inverse_point (cancelling tx ty) x y ≡ Skipped)
+      × ((x y : ℤ) → inverse_point (cancelling tx ty) x y ≡ None)
   -- "Pressure 32,768 passes, 32,769 is 35. Tilt 90 passes, -91 is 36.": the payload's own test
   pub pressure_and_tilt : (p : PointerInput) → eqb p.contact 4294967295 ≡ false
       → PressureRows p × (ltb 32768 p.pressure_q15 ≡ false → TiltRows p)
@@ -88,7 +86,7 @@ pub record CounterTable : Type 0 where
   -- "A closes while holding contact 9, B holding PRIMARY: the view's single capture field empties,
   -- B's map entry remains."
   pub captures_apart : (r : CompositionRegistry) (a b : GenerationalHandle) (p : CompositionPointerId)
-      → Undamaged r → (close_surface r a).outcome ≡ Accepted
+      → Undamaged r → outcome_of (close_surface r a) ≡ Ok tt
       → same_handle a b ≡ false → p.contact ≡ 9 → Holds (before r a) p a → Holds (before r a) primary b
       → ((after r a).pointer_capture ≡ None) × Holds (after r a) primary b
 
@@ -107,7 +105,7 @@ pub record CounterExamples : Type 0 where
   pub wrong_view : number_of (set_focus watched unknown_view (Some panel_a) watched.revision).outcome ≡ 17
   -- A closes while it holds contact 9, and B holds PRIMARY, also in the view's single field
   pub undamaged : Undamaged held
-  pub closes : (close_surface held panel_a).outcome ≡ Accepted
+  pub closes : outcome_of (close_surface held panel_a) ≡ Ok tt
   pub a_holds : Holds (before held panel_a) contact_nine panel_a
   pub b_holds : Holds (before held panel_a) primary panel_b
   pub field_holds : (before held panel_a).pointer_capture ≡ Some panel_b

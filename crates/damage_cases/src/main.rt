@@ -43,8 +43,7 @@ pub fn write_front(rt: &impl Print, line: &[u8], len: usize) -> io::Result<()> {
 // A call that every sound registry with a place left accepts.
 pub fn ask(rt: &impl Print, name: &[u8], registry: CompositionRegistry) -> io::Result<()> {
     let answered = composition_panels::windows::create_window(registry);
-    let outcome = answered.outcome;
-    report(rt, name, outcome)
+    report(rt, name, answered.outcome.map(|_| ()))
 }
 
 pub fn first(index: u32) -> GenerationalHandle {

@@ -1,9 +1,9 @@
 // Registries that no list of calls leaves, but that are not damaged: each call answers as the Rust would.
 use composition_state::registry::CompositionRegistry;
+use handles::GenerationalHandle;
 use handles::arena::Slot;
-use handles::{GenerationalHandle, OptionalHandle};
 use records::layers::Layers;
-use records::surface::SurfaceRecord;
+use records::surface::{SurfaceDescriptor, SurfaceRecord};
 use std::io;
 
 // Panel 2 taken out of its view's layers.
@@ -15,9 +15,12 @@ fn outside_layers(mut registry: CompositionRegistry) -> CompositionRegistry {
 }
 
 fn owned_by(record: SurfaceRecord, view: GenerationalHandle) -> SurfaceRecord {
-    let mut descriptor = record.descriptor;
-    descriptor.view = view;
-    SurfaceRecord { descriptor }
+    SurfaceRecord {
+        descriptor: SurfaceDescriptor {
+            view,
+            ..record.descriptor
+        },
+    }
 }
 
 // A registry whose panel 2, outside all layers, then names a view that is not live.
@@ -33,10 +36,9 @@ fn ask_focus(
     registry: CompositionRegistry,
     view: GenerationalHandle,
 ) -> io::Result<()> {
-    let surface = OptionalHandle::Some(crate::first(2));
+    let surface = Some(crate::first(2));
     let answered = composition_input::focus::set_focus(registry, view, surface, registry.revision);
-    let outcome = answered.outcome;
-    crate::report(rt, name, outcome)
+    crate::report(rt, name, answered.outcome)
 }
 
 fn ask_capture(rt: &impl Print, name: &[u8], registry: CompositionRegistry) -> io::Result<()> {
@@ -45,19 +47,16 @@ fn ask_capture(rt: &impl Print, name: &[u8], registry: CompositionRegistry) -> i
         crate::first(2),
         registry.revision,
     );
-    let outcome = answered.outcome;
-    crate::report(rt, name, outcome)
+    crate::report(rt, name, answered.outcome)
 }
 
 // What stands in places that no count reaches is read by nobody.
 fn ask_garbage(rt: &impl Print, mut registry: CompositionRegistry) -> io::Result<()> {
-    let mut windows = registry.windows;
-    windows.slots[40] = Slot {
+    registry.windows.slots[40] = Slot {
         generation: 0,
         filled: true,
     };
-    windows.free[40] = 99;
-    registry.windows = windows;
+    registry.windows.free[40] = 99;
     crate::ask(rt, b"odd: garbage in unused places", registry)
 }
 

@@ -15,8 +15,7 @@ fn ask(
     call: ReadCall,
 ) -> io::Result<()> {
     let answered = read_step::steps::read_step(registry, router, call);
-    let outcome = answered.outcome;
-    crate::report(rt, name, outcome)
+    crate::report(rt, name, answered.map(|_| ()))
 }
 
 // Live counts that are not the number of filled slots, a different one in each table.

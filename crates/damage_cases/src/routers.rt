@@ -52,18 +52,15 @@ fn key_up() -> PlatformInputEvent {
 }
 
 fn route(registry: CompositionRegistry, router: PlatformInputRouter) -> RouterOutcome {
-    let routed = input_route::route::route(registry, router, key_up());
-    routed.outcome
+    input_route::route::route(registry, router, key_up()).refusal()
 }
 
 fn release_panel(router: PlatformInputRouter) -> RouterOutcome {
-    let released = router.release_surface(crate::first(0));
-    released.outcome
+    router.release_surface(crate::first(0)).refusal()
 }
 
 fn release_all(router: PlatformInputRouter) -> RouterOutcome {
-    let released = router.release_all();
-    released.outcome
+    router.release_all().refusal()
 }
 
 // A name and the three answers, each behind a space.
@@ -100,7 +97,7 @@ fn report(
 
 fn put_answer(line: &mut [u8], at: usize, outcome: RouterOutcome) -> usize {
     let spaced = answer_text::put::put_byte(line, at, b' ');
-    answer_text::put::put_u64(line, spaced, input_events::error::number(outcome))
+    answer_text::put::put_u64(line, spaced, records::error::number(outcome))
 }
 
 fn key_press(value: u64, physical_key: u32, surface: GenerationalHandle) -> Binding {
@@ -121,9 +118,9 @@ fn with_presses(
     len: usize,
 ) -> PlatformInputRouter {
     let mut presses = router.bindings;
-    presses.entries[0] = first;
-    presses.entries[1] = second;
-    presses.len = len;
+    presses.table.items[0] = first;
+    presses.table.items[1] = second;
+    presses.table.len = len;
     router.with_bindings(presses)
 }
 
@@ -134,15 +131,15 @@ fn with_devices(
     len: usize,
 ) -> PlatformInputRouter {
     let mut sequences = router.device_sequences;
-    sequences.entries[0] = DeviceSequence {
+    sequences.table.items[0] = DeviceSequence {
         device: device(first),
         sequence: 5,
     };
-    sequences.entries[1] = DeviceSequence {
+    sequences.table.items[1] = DeviceSequence {
         device: device(second),
         sequence: 5,
     };
-    sequences.len = len;
+    sequences.table.len = len;
     router.with_sequences(sequences)
 }
 
@@ -240,9 +237,9 @@ fn ask_strange_press(
 // Keys that fall and repeat behind the counts.
 fn with_garbage(bindings: Bindings, sequences: DeviceSequences) -> PlatformInputRouter {
     let mut presses = bindings;
-    presses.entries[100] = key_press(0, 0, crate::first(0));
+    presses.table.items[100] = key_press(0, 0, crate::first(0));
     let mut known = sequences;
-    known.entries[20] = DeviceSequence {
+    known.table.items[20] = DeviceSequence {
         device: device(0),
         sequence: 0,
     };

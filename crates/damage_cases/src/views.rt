@@ -26,8 +26,8 @@ fn with_layers(layers: Layers, low: u32, high: u32, len: usize) -> Layers {
 
 fn with_equal_keys(captures: PointerCaptures) -> PointerCaptures {
     let mut next = captures;
-    let entry = next.entries[0];
-    next.entries[1] = entry;
+    let entry = next.table.items[0];
+    next.table.items[1] = entry;
     next
 }
 
@@ -60,7 +60,7 @@ fn ask_capture_count(
     registry: CompositionRegistry,
     mut record: ViewRecord,
 ) -> io::Result<()> {
-    record.pointer_captures.len = 33;
+    record.pointer_captures.table.len = 33;
     ask(rt, name, registry, record)
 }
 

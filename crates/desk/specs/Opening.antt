@@ -1,10 +1,8 @@
 -- RULES.md, Desk: the counter at its start, and the window, the view and the three panels that are set up.
-use Rattle.std.specs.Prelude.{ℕ, false, [], ℤ, pos}
+use Rattle.std.specs.Prelude.{ℕ, false, [], ℤ, pos, Option, None, Some}
 use Rattle.lists.specs.Tables.{packed}
 use Rattle.handles.specs.Handles.{handle_of, invalid_handle}
 use Rattle.handles.specs.declared.GenerationalHandle.{GenerationalHandle}
-use Rattle.handles.specs.declared.OptionalHandle.{OptionalHandle}
-use Rattle.handles.specs.declared.OptionalHandle.TheVariants.{None, Some}
 use Rattle.geometry.specs.Surface.{default_geometry}
 use Rattle.composition_state.specs.declared.registry.CompositionLimits.{CompositionLimits}
 use Rattle.records.specs.declared.surface.SurfaceInputPolicy.{SurfaceInputPolicy}
@@ -48,7 +46,7 @@ start_counter =
     record { registry = (started (handle_of 0 1) 1 port_limits 0 1).registry; router = (router_started 128).router }
 
 -- a refused call has made nothing
-abbrev pub handle_from : OptionalHandle → GenerationalHandle
+abbrev pub handle_from : Option GenerationalHandle → GenerationalHandle
 handle_from None = invalid_handle
 handle_from (Some h) = h
 

@@ -1,8 +1,7 @@
 -- RULES.md, Desk: the eight steps. "Device 7.1, contact 0."
-use Rattle.std.specs.Prelude.{ℕ, false, cond, eqb, pos}
+use Rattle.std.specs.Prelude.{ℕ, false, cond, eqb, pos, Some}
 use Rattle.input_events.specs.declared.event.InputDeviceKind.TheVariants.{Touch}
 use Rattle.input_events.specs.declared.event.InputModifiers.{InputModifiers}
-use Rattle.input_events.specs.declared.event.OptionalButton.TheVariants.{Some}
 use Rattle.input_events.specs.declared.event.PlatformInputHeader.{PlatformInputHeader}
 use Rattle.input_events.specs.declared.event.PlatformInputPayload.{PlatformInputPayload}
 use Rattle.input_events.specs.declared.event.PlatformInputPayload.TheVariants.{Pointer, DeviceDisconnected}

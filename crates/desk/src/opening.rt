@@ -10,9 +10,8 @@ use composition_state::registry::{CompositionLimits, CompositionRegistry};
 use counter::answer::Answer;
 use counter::step::{Counter, step};
 use geometry::surface::SurfaceGeometry;
-use handles::{GenerationalHandle, OptionalHandle};
+use handles::GenerationalHandle;
 use input_router::router::PlatformInputRouter;
-use records::shortcut::{ShortcutScope, SurfaceShortcutRegistration};
 use records::surface::{SurfaceDescriptor, SurfaceInputPolicy, SurfaceKind};
 use records::trace::Hits;
 
@@ -48,22 +47,13 @@ struct Created {
 }
 
 // No call of this session hands in hits or registrations.
+#[tactic(auto, unfolding(crate::specs::Opening::no_lists))]
 pub fn no_lists() -> Lists
     ensures { result ≡ no_lists }
 {
-    let blank = SurfaceShortcutRegistration {
-        class_mask: 0,
-        scope: ShortcutScope::View,
-        priority: 0,
-    };
-    let hits = Hits::new();
-    let registrations = Registrations {
-        items: [blank; 64],
-        len: 0,
-    };
     Lists {
-        hits,
-        registrations,
+        hits: Hits::new(),
+        registrations: Registrations::new(),
     }
 }
 
@@ -82,32 +72,26 @@ fn start() -> Counter
         max_surfaces_per_view: 16,
         max_trace_entries: 32,
     };
-    let composition = CompositionRegistry::new(session, 1, limits);
-    let routing = PlatformInputRouter::new(128);
-    let registry = composition.registry;
-    let router = routing.router;
-    Counter { registry, router }
+    Counter {
+        registry: CompositionRegistry::new(session, 1, limits).registry,
+        router: PlatformInputRouter::new(128).router,
+    }
 }
 
 // A refused call has made nothing: every later call then refuses the handle of no slot.
 fn handle_from(answer: Answer) -> GenerationalHandle
     ensures { result ≡ handle_from answer.handle }
 {
-    let handle = answer.handle;
-    match handle {
-        OptionalHandle::None => GenerationalHandle::INVALID,
-        OptionalHandle::Some(issued) => issued,
-    }
+    answer.handle.unwrap_or(GenerationalHandle::INVALID)
 }
 
 fn create(counter: Counter, call: PanelCall) -> Created
     ensures { result ≡ created_by counter call }
 {
     let done = step(counter, Call::Panel(call), no_lists());
-    let next = done.counter;
     Created {
         handle: handle_from(done.answer),
-        counter: next,
+        counter: done.counter,
     }
 }
 
@@ -120,14 +104,13 @@ fn attach(
 ) -> Created
     ensures { result ≡ attached counter view z_order input }
 {
-    let geometry = SurfaceGeometry::default();
     let descriptor = SurfaceDescriptor {
         view,
         kind: SurfaceKind::Ui,
         z_order,
         input,
         accepts_text: false,
-        geometry,
+        geometry: SurfaceGeometry::default(),
     };
     create(counter, PanelCall::AttachSurface(descriptor))
 }
@@ -135,8 +118,7 @@ fn attach(
 fn revision_shown(answer: Answer) -> u64
     ensures { result ≡ revision_shown answer.shown }
 {
-    let shown = answer.shown;
-    if let Shown::Metrics(metrics) = shown {
+    if let Shown::Metrics(metrics) = answer.shown {
         return metrics.revision;
     }
     0
@@ -153,37 +135,30 @@ fn metrics_revision(counter: Counter, view: GenerationalHandle) -> u64
 fn open_view(counter: Counter) -> Viewed
     ensures { result ≡ view_opened counter }
 {
-    let first = create(counter, PanelCall::CreateWindow);
-    let window = first.handle;
-    let second = create(first.counter, PanelCall::CreateView(window));
-    let view = second.handle;
-    let next = second.counter;
+    let window = create(counter, PanelCall::CreateWindow);
+    let view = create(window.counter, PanelCall::CreateView(window.handle));
     Viewed {
-        window,
-        view,
-        counter: next,
+        window: window.handle,
+        view: view.handle,
+        counter: view.counter,
     }
 }
 
 fn open_panels(viewed: Viewed) -> Opened
     ensures { result ≡ panels_opened viewed }
 {
-    let window = viewed.window;
     let view = viewed.view;
     let seat_map = attach(viewed.counter, view, 0, SurfaceInputPolicy::Interactive);
     let hold_bar = attach(seat_map.counter, view, 1, SurfaceInputPolicy::Observe);
     let pay_sheet = attach(hold_bar.counter, view, 2, SurfaceInputPolicy::Exclusive);
-    let last = pay_sheet.counter;
-    let closing = pay_sheet.handle;
-    let places = Places {
-        window,
-        view,
-        metrics_revision: metrics_revision(last, view),
-        pay_sheet: closing,
-    };
     Opened {
-        places,
-        counter: last,
+        places: Places {
+            window: viewed.window,
+            view,
+            metrics_revision: metrics_revision(pay_sheet.counter, view),
+            pay_sheet: pay_sheet.handle,
+        },
+        counter: pay_sheet.counter,
     }
 }
 

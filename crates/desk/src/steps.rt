@@ -5,8 +5,8 @@ ghost use Rattle.desk.specs.Steps.{no_modifiers, header_of, route_call, down_cal
 use crate::opening::Places;
 use calls::call::{Call, CloseCall, RouterCall};
 use input_events::event::{
-    InputDeviceKind, InputModifiers, OptionalButton, PlatformInputEvent, PlatformInputHeader,
-    PlatformInputPayload, PointerInput, PointerPhase,
+    InputDeviceKind, InputModifiers, PlatformInputEvent, PlatformInputHeader, PlatformInputPayload,
+    PointerInput, PointerPhase,
 };
 use maps::keys::InputDeviceId;
 
@@ -26,21 +26,18 @@ fn no_modifiers() -> InputModifiers
 fn header(places: Places, sequence: u64, time: u64) -> PlatformInputHeader
     ensures { result ≡ header_of places sequence time }
 {
-    let window = places.window;
-    let view = places.view;
-    let modifiers = no_modifiers();
     PlatformInputHeader {
         sequence,
         timestamp_micros: time,
         metrics_revision: places.metrics_revision,
-        window,
-        view,
+        window: places.window,
+        view: places.view,
         device: InputDeviceId {
             value: 7,
             generation: 1,
         },
         device_kind: InputDeviceKind::Touch,
-        modifiers,
+        modifiers: no_modifiers(),
     }
 }
 
@@ -66,7 +63,7 @@ fn down(places: Places, sequence: u64, time: u64) -> Call
         tilt_x_degrees: 0,
         tilt_y_degrees: 0,
         buttons: 1,
-        changed_button: OptionalButton::Some(0),
+        changed_button: Some(0),
     };
     route(places, sequence, time, PlatformInputPayload::Pointer(press))
 }
@@ -86,11 +83,10 @@ fn disconnect(places: Places, sequence: u64, time: u64) -> Call
 pub fn call_of(places: Places, step: u64) -> Call
     ensures { result ≡ call_of places step }
 {
-    let pay_sheet = places.pay_sheet;
     match step {
         1 => down(places, 1, 10),
-        2 => Call::Close(CloseCall::CloseSurface(pay_sheet)),
-        3 => Call::Router(RouterCall::ReleaseSurface(pay_sheet)),
+        2 => Call::Close(CloseCall::CloseSurface(places.pay_sheet)),
+        3 => Call::Router(RouterCall::ReleaseSurface(places.pay_sheet)),
         4 => down(places, 2, 10),
         5 => down(places, 2, 10),
         6 => disconnect(places, 3, 11),

@@ -1,4 +1,5 @@
 -- The whole part of twice a float in range, halved away from zero, is the nearest `i32`: doubling is exact, and halving rounds.
+use Rattle.std.specs.Prelude.{None, Some}
 use Rattle.std.proofs.Common.{◌≡◌, ℕ, zero, suc, ◌+◌, ◌*◌, ◌/◌, ◌^◌, ◌<◌, ◌≤◌, Bool, true, false, T, ℤ, pos, neg_ℤ, sym, refl, ap, ◌∙◌, subst, true≢false, le_of_suc-le-suc, lt_of_le_of_lt, mul_assoc, suc-mul, div-lt_iff_lt-mul, mul-pos, arith, lit<, w32, SFits, leb-true}
 use native.Mathlib.Nat.{add-div_right, div-div-eq-div-mul}
 use lib.Signed.{mag}
@@ -6,7 +7,6 @@ use lib.Ieee.{Float, nan, inf, fin, binary64, up, down, lt, le, fits, to_signed}
 use lib.Ieee.Fits.{down_pos}
 use lib.Ieee.Exact.{HasValue}
 use Rattle.geometry.specs.Rounding.{signed, nearest, in_i32_range, round_i32, half_away}
-use Rattle.geometry.specs.declared.rounding.OptionalI32.TheVariants.{None, Some}
 use Rattle.geometry.proofs.Logic.{cond_true}
 use Rattle.geometry.proofs.Integers.{neg_mag}
 use Rattle.geometry.proofs.RangeTests.{lowest, highest, in_range}

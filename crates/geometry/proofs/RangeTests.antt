@@ -1,10 +1,10 @@
 -- The tests of the `i32` range on floats are the definition's on fractions: finite floats compare as their cross products do.
+use Rattle.std.specs.Prelude.{None}
 use Rattle.std.proofs.Common.{◌≡◌, ℕ, ◌+◌, ◌*◌, ◌<◌, Bool, true, false, cond, ◌&&◌, ◌||◌, T, eqb, ltb, leb, ℤ, pos, sym, refl, ap, ◌∙◌, subst, inl, inr, true≢false, le_of_eq, le_of_lt, eq-or-lt_of_le, mul-one, arith, le→leb, eqb→eq, ltb→lt, lt→ltb, leb→le}
 use lib.Dec.{eqb_refl}
 use lib.Ieee.{Float, nan, inf, fin, up, down, le}
 use lib.Ieee.Fits.{down_pos, and_l, and_i}
 use Rattle.geometry.specs.Rounding.{in_i32_range, round_i32}
-use Rattle.geometry.specs.declared.rounding.OptionalI32.TheVariants.{None}
 use Rattle.geometry.proofs.Logic.{bool_ext, is_true, or_l, or_r, or_split, ltb_or, cond_false}
 
 -- x ≤ y, as `le` tests it; the equality's test may stand either way round

@@ -1,14 +1,12 @@
 -- What holds of the definitions of geometry: two theorems on determinants, and the rows of RULES.md, Counter table.
-use Rattle.std.specs.Prelude.{◌≡◌, true, false, ℤ, pos, neg_ℤ, FitsSigned, Float}
+use Rattle.std.specs.Prelude.{◌≡◌, true, false, ℤ, pos, neg_ℤ, FitsSigned, Float, None, Some}
 use Rattle.std.specs.Int.{w32, w64}
 use Rattle.geometry.specs.Rect.{contains}
 use Rattle.geometry.specs.Transform.{determinant, matrix_entry, inverse_point, is_finite}
 use Rattle.geometry.specs.Surface.{integer_determinant, is_hit, is_valid_geometry}
 use Rattle.geometry.specs.declared.rect.SurfaceRect.{SurfaceRect}
-use Rattle.geometry.specs.declared.rect.OptionalRect.TheVariants.{None}
 use Rattle.geometry.specs.declared.transform.SurfaceTransform.{SurfaceTransform}
 use Rattle.geometry.specs.declared.transform.Point.{Point}
-use Rattle.geometry.specs.declared.transform.LocalPoint.TheVariants.{At, Skipped}
 use Rattle.geometry.specs.declared.surface.SurfaceGeometry.{SurfaceGeometry}
 
 -- InvalidGeometry 13 and Hit test: every matrix entry is an `i32`
@@ -68,14 +66,14 @@ pub record CounterRows : Type 0 where
   pub top_outside : contains from_minus500 (pos 0) (neg_ℤ (pos 501)) ≡ false
   pub bottom_edge : contains from_minus500 (pos 0) (pos 500) ≡ false
   -- "Scale 131,072 both ways: x 5 becomes 3, x -5 becomes -3"
-  pub half_up : inverse_point (scale (pos 131072)) (pos 5) (pos 0) ≡ At (point (pos 3) (pos 0))
-  pub half_down : inverse_point (scale (pos 131072)) (neg_ℤ (pos 5)) (pos 0) ≡ At (point (neg_ℤ (pos 3)) (pos 0))
+  pub half_up : inverse_point (scale (pos 131072)) (pos 5) (pos 0) ≡ Some (point (pos 3) (pos 0))
+  pub half_down : inverse_point (scale (pos 131072)) (neg_ℤ (pos 5)) (pos 0) ≡ Some (point (neg_ℤ (pos 3)) (pos 0))
   -- "Scale 1 both ways: x 32,767 becomes 2,147,418,112; x 32,768 is skipped"
-  pub in_range : inverse_point (scale (pos 1)) (pos 32767) (pos 0) ≡ At (point (pos 2147418112) (pos 0))
-  pub past_range : inverse_point (scale (pos 1)) (pos 32768) (pos 0) ≡ Skipped
+  pub in_range : inverse_point (scale (pos 1)) (pos 32767) (pos 0) ≡ Some (point (pos 2147418112) (pos 0))
+  pub past_range : inverse_point (scale (pos 1)) (pos 32768) (pos 0) ≡ None
   -- "geometry accepted, always skipped"
   pub accepted : (tx ty : ℤ) → is_valid_geometry (geometry_with (cancelling tx ty)) ≡ true
-  pub always_skipped : (tx ty x y : ℤ) → inverse_point (cancelling tx ty) x y ≡ Skipped
+  pub always_skipped : (tx ty x y : ℤ) → inverse_point (cancelling tx ty) x y ≡ None
   pub never_hit : (tx ty x y : ℤ) → is_hit (geometry_with (cancelling tx ty)) x y ≡ false
 
 -- what is proved of the definitions, beside that the code meets them

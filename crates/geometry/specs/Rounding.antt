@@ -1,10 +1,8 @@
 -- A float to the nearest `i32`, as RULES.md, Hit test, rounds a quotient. A float m * 2 ^ e is the fraction m * up e /
 -- down e.
-use Rattle.std.specs.Prelude.{ℕ, ◌+◌, ◌*◌, ◌/◌, Bool, cond, ℤ, pos, negsuc, neg_ℤ, nat_le, Float}
+use Rattle.std.specs.Prelude.{ℕ, ◌+◌, ◌*◌, ◌/◌, Bool, cond, ℤ, pos, negsuc, neg_ℤ, nat_le, Float, Option, None, Some}
 use Rattle.std.specs.Float.{nan, inf, fin}
 use Rattle.std.specs.Float.Ieee.{up, down}
-use Rattle.geometry.specs.declared.rounding.OptionalI32.{OptionalI32}
-use Rattle.geometry.specs.declared.rounding.OptionalI32.TheVariants.{None, Some}
 
 -- Hit test, "away from zero": a size with its sign, where true is minus
 abbrev pub signed : Bool → ℕ → ℤ
@@ -19,7 +17,7 @@ abbrev pub in_i32_range : Bool → ℕ → ℕ → Bool
 in_i32_range minus num den = cond minus (nat_le num (2147483648 * den)) (nat_le num (2147483647 * den))
 
 -- Hit test, "tested before rounding; halves go away from zero": what is not finite has no nearest number either
-abbrev pub round_i32 : Float → OptionalI32
+abbrev pub round_i32 : Float → Option ℤ
 round_i32 nan = None
 round_i32 (inf minus) = None
 round_i32 (fin minus m e) =

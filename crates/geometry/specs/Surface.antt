@@ -1,24 +1,21 @@
 -- When a point hits a panel, and when its geometry is refused 13.
-use Rattle.std.specs.Prelude.{Bool, true, false, not, ◌&&◌, ◌||◌, ℤ, pos, negsuc, ◌-ℤ◌, ◌*ℤ◌, ◌==◌}
+use Rattle.geometry.specs.declared.rect.SurfaceRect.{SurfaceRect}
+use Rattle.std.specs.Prelude.{Bool, true, false, not, ◌&&◌, ◌||◌, ℤ, pos, negsuc, ◌-ℤ◌, ◌*ℤ◌, ◌==◌, Option, None, Some}
 use Rattle.geometry.specs.Rect.{contains, is_empty}
 use Rattle.geometry.specs.Transform.{identity, inverse_point}
-use Rattle.geometry.specs.declared.rect.OptionalRect.{OptionalRect}
-use Rattle.geometry.specs.declared.rect.OptionalRect.TheVariants.{None, Some}
 use Rattle.geometry.specs.declared.transform.SurfaceTransform.{SurfaceTransform}
 use Rattle.geometry.specs.declared.transform.Point.{Point}
-use Rattle.geometry.specs.declared.transform.LocalPoint.{LocalPoint}
-use Rattle.geometry.specs.declared.transform.LocalPoint.TheVariants.{At, Skipped}
 use Rattle.geometry.specs.declared.surface.SurfaceGeometry.{SurfaceGeometry}
 
 -- Hit test, "must lie in bounds and clip, where present"
-abbrev pub allows : OptionalRect → Point → Bool
+abbrev pub allows : Option SurfaceRect → Point → Bool
 allows None p = true
 allows (Some rect) p = contains rect p.x_milli p.y_milli
 
 -- Hit test, "the local point must lie in bounds and clip": a skipped panel has none
-abbrev pub lies_inside : OptionalRect → OptionalRect → LocalPoint → Bool
-lies_inside bounds clip (At p) = allows bounds p && allows clip p
-lies_inside bounds clip Skipped = false
+abbrev pub lies_inside : Option SurfaceRect → Option SurfaceRect → Option Point → Bool
+lies_inside bounds clip (Some p) = allows bounds p && allows clip p
+lies_inside bounds clip None = false
 
 -- Hit test, "A panel with hit testing off is passed over; the local point must lie in bounds and clip": one panel, one
 -- point
@@ -26,7 +23,7 @@ unfoldable pub is_hit : SurfaceGeometry → ℤ → ℤ → Bool
 is_hit g x y = g.hit_test_enabled && lies_inside g.bounds g.clip (inverse_point g.transform x y)
 
 -- InvalidGeometry 13: a rectangle that is present has a side of 0
-abbrev pub has_zero_side : OptionalRect → Bool
+abbrev pub has_zero_side : Option SurfaceRect → Bool
 has_zero_side None = false
 has_zero_side (Some rect) = is_empty rect.width_milli rect.height_milli
 

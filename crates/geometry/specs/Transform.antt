@@ -1,13 +1,10 @@
 -- The inverse of a panel's transform at a point, as RULES.md, Hit test, has it: in `f64`, each step rounded once.
-use Rattle.std.specs.Prelude.{Bool, true, false, cond, ℤ, pos, negsuc, Float}
+use Rattle.geometry.specs.declared.transform.Point.{Point}
+use Rattle.std.specs.Prelude.{Bool, true, false, cond, ℤ, pos, negsuc, Float, Option, None, Some}
 use Rattle.std.specs.Float.Ieee as Ieee
 use Rattle.std.specs.Float.{nan, inf, fin, binary64}
 use Rattle.geometry.specs.Rounding.{round_i32}
-use Rattle.geometry.specs.declared.rounding.OptionalI32.{OptionalI32}
-use Rattle.geometry.specs.declared.rounding.OptionalI32.TheVariants.{None, Some}
 use Rattle.geometry.specs.declared.transform.SurfaceTransform.{SurfaceTransform}
-use Rattle.geometry.specs.declared.transform.LocalPoint.{LocalPoint}
-use Rattle.geometry.specs.declared.transform.LocalPoint.TheVariants.{At, Skipped}
 
 infixl 6 ◌+f◌ ◌-f◌
 infixl 7 ◌*f◌ ◌/f◌
@@ -68,20 +65,20 @@ abbrev pub is_under_epsilon : Float → Bool
 is_under_epsilon d = Ieee.lt (abs d) epsilon
 
 -- Hit test, "A quotient outside the i32 range skips the panel"
-abbrev pub joined : OptionalI32 → OptionalI32 → LocalPoint
-joined (Some x) (Some y) = At (record { x_milli = x; y_milli = y })
-joined (Some x) None = Skipped
-joined None y = Skipped
+abbrev pub joined : Option ℤ → Option ℤ → Option Point
+joined (Some x) (Some y) = Some (record { x_milli = x; y_milli = y })
+joined (Some x) None = None
+joined None y = None
 
 -- Hit test, "local x is (m22 × dx - m21 × dy) / determinant and local y is (-m12 × dx + m11 × dy) / determinant"
-unfoldable pub solved : Float → Float → Float → Float → Float → Float → LocalPoint
+unfoldable pub solved : Float → Float → Float → Float → Float → Float → Option Point
 solved m11 m12 m21 m22 dx dy =
     let d = determinant m11 m12 m21 m22 in
-    cond (is_under_epsilon d) Skipped
+    cond (is_under_epsilon d) None
     (joined (round_i32 ((m22 *f dx -f m21 *f dy) /f d)) (round_i32 ((Ieee.neg m12 *f dx +f m11 *f dy) /f d)))
 
 -- Hit test, the rule for the local point as a whole
-abbrev pub inverse_point : SurfaceTransform → ℤ → ℤ → LocalPoint
+abbrev pub inverse_point : SurfaceTransform → ℤ → ℤ → Option Point
 inverse_point t x y =
     solved
     (matrix_entry t.m11_q16)

@@ -4,7 +4,7 @@ ghost use Rattle.geometry.specs.Metrics.{at_revision, default_metrics, framebuff
 use crate::rect::is_empty;
 
 // Whether a view is shown. Nothing here reads it; it is kept and answered.
-#[derive(Clone, Copy)]
+#[derive(Clone, Copy, PartialEq, Eq)]
 pub enum ViewVisibility {
     Visible,
     Hidden,
@@ -13,7 +13,7 @@ pub enum ViewVisibility {
 
 // What a view keeps free at each side, in thousandths.
 #[repr(C)]
-#[derive(Clone, Copy)]
+#[derive(Clone, Copy, PartialEq, Eq)]
 pub struct ViewInsets {
     pub top_milli: u32,
     pub right_milli: u32,
@@ -22,7 +22,7 @@ pub struct ViewInsets {
 }
 
 // A view's place and size in thousandths, its framebuffer in pixels, and its own revision.
-#[derive(Clone, Copy)]
+#[derive(Clone, Copy, PartialEq, Eq)]
 pub struct ViewMetrics {
     pub revision: u64,
     pub origin_x_milli: i32,
@@ -37,7 +37,7 @@ pub struct ViewMetrics {
 }
 
 // What a caller sets of a view's metrics: all but the revision.
-#[derive(Clone, Copy)]
+#[derive(Clone, Copy, PartialEq, Eq)]
 pub struct ViewMetricsUpdate {
     pub origin_x_milli: i32,
     pub origin_y_milli: i32,
@@ -69,55 +69,50 @@ fn framebuffer_disagrees(update: ViewMetricsUpdate) -> bool
 }
 
 // Whether the update is accepted; false is refusal 14.
+#[tactic(auto, unfolding(crate::specs::Metrics::is_valid_metrics))]
 pub fn validate_view_metrics(update: ViewMetricsUpdate) -> bool
     ensures { result ≡ is_valid_metrics update }
 {
-    let safe_area = update.safe_area;
-    if update.scale_q16 == 0 {
-        return false;
-    }
-    if is_over(
-        safe_area.left_milli,
-        safe_area.right_milli,
-        update.width_milli,
-    ) {
-        return false;
-    }
-    if is_over(
-        safe_area.top_milli,
-        safe_area.bottom_milli,
-        update.height_milli,
-    ) {
-        return false;
-    }
-    if framebuffer_disagrees(update) {
-        return false;
-    }
-    true
+    update.scale_q16 != 0
+        && !is_over(
+            update.safe_area.left_milli,
+            update.safe_area.right_milli,
+            update.width_milli,
+        )
+        && !is_over(
+            update.safe_area.top_milli,
+            update.safe_area.bottom_milli,
+            update.height_milli,
+        )
+        && !framebuffer_disagrees(update)
 }
 
 impl ViewMetrics {
     // A fresh view's metrics.
-    pub fn default() -> Self
+    pub const DEFAULT: Self = Self {
+        revision: 1,
+        origin_x_milli: 0,
+        origin_y_milli: 0,
+        width_milli: 0,
+        height_milli: 0,
+        framebuffer_width: 0,
+        framebuffer_height: 0,
+        scale_q16: 65536,
+        safe_area: ViewInsets {
+            top_milli: 0,
+            right_milli: 0,
+            bottom_milli: 0,
+            left_milli: 0,
+        },
+        visibility: ViewVisibility::Hidden,
+    };
+}
+
+impl Default for ViewMetrics {
+    fn default() -> Self
         ensures { result ≡ default_metrics }
     {
-        Self {
-            revision: 1,
-            origin_x_milli: 0,
-            origin_y_milli: 0,
-            width_milli: 0,
-            height_milli: 0,
-            framebuffer_width: 0,
-            framebuffer_height: 0,
-            scale_q16: 65536,
-            safe_area: ViewInsets {
-                top_milli: 0,
-                right_milli: 0,
-                bottom_milli: 0,
-                left_milli: 0,
-            },
-            visibility: ViewVisibility::Hidden,
-        }
+        Self::DEFAULT
     }
 }
 
@@ -126,8 +121,6 @@ impl ViewMetricsUpdate {
     pub fn at_revision(self, revision: u64) -> ViewMetrics
         ensures { result ≡ at_revision self revision }
     {
-        let safe_area = self.safe_area;
-        let visibility = self.visibility;
         ViewMetrics {
             revision,
             origin_x_milli: self.origin_x_milli,
@@ -137,8 +130,8 @@ impl ViewMetricsUpdate {
             framebuffer_width: self.framebuffer_width,
             framebuffer_height: self.framebuffer_height,
             scale_q16: self.scale_q16,
-            safe_area,
-            visibility,
+            safe_area: self.safe_area,
+            visibility: self.visibility,
         }
     }
 }

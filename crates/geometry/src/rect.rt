@@ -3,19 +3,12 @@ ghost use Rattle.geometry.specs.Rect.{contains, is_empty, spans};
 
 // A rectangle in thousandths, whose corner may be negative.
 #[repr(C)]
-#[derive(Clone, Copy)]
+#[derive(Clone, Copy, PartialEq, Eq)]
 pub struct SurfaceRect {
     pub x_milli: i32,
     pub y_milli: i32,
     pub width_milli: u32,
     pub height_milli: u32,
-}
-
-// Bounds or a clip, where present.
-#[derive(Clone, Copy)]
-pub enum OptionalRect {
-    None,
-    Some(SurfaceRect),
 }
 
 // Whether a coordinate lies from the start on and before the end; the edges are i64, so that no sum overflows.
@@ -36,6 +29,13 @@ pub fn is_empty(width: u32, height: u32) -> bool
 }
 
 impl SurfaceRect {
+    // Whether a side is 0.
+    pub fn is_empty(self) -> bool
+        ensures { result ≡ is_empty self.width_milli self.height_milli }
+    {
+        is_empty(self.width_milli, self.height_milli)
+    }
+
     // Whether the point lies in the rectangle; the right and bottom edges do not.
     pub fn contains(self, x_milli: i32, y_milli: i32) -> bool
         ensures { result ≡ contains self x_milli y_milli }

@@ -1,47 +1,38 @@
 ghost use Rattle.std.specs.Prelude.{◌≡◌};
 ghost use Rattle.geometry.specs.Surface.{allows, default_geometry, has_zero_side, integer_determinant, is_hit, is_valid_geometry, is_zero, lies_inside};
 
-use crate::rect::{OptionalRect, is_empty};
-use crate::transform::{LocalPoint, Point, SurfaceTransform};
+use crate::rect::SurfaceRect;
+use crate::transform::{Point, SurfaceTransform};
 
 // Where a panel lies in its view. Without bounds it fills the view; bounds and clip are in the panel's own coordinates.
-#[derive(Clone, Copy)]
+#[derive(Clone, Copy, PartialEq, Eq)]
 pub struct SurfaceGeometry {
-    pub bounds: OptionalRect,
-    pub clip: OptionalRect,
+    pub bounds: Option<SurfaceRect>,
+    pub clip: Option<SurfaceRect>,
     pub transform: SurfaceTransform,
     pub opacity_q16: u16,
     pub hit_test_enabled: bool,
 }
 
 // Whether the point lies in a rectangle that may be absent.
-fn is_allowed(rect: OptionalRect, point: Point) -> bool
+fn is_allowed(rect: Option<SurfaceRect>, point: Point) -> bool
     ensures { result ≡ allows rect point }
 {
-    match rect {
-        OptionalRect::None => true,
-        OptionalRect::Some(present) => present.contains(point.x_milli, point.y_milli),
-    }
+    rect.is_none_or(|present| present.contains(point.x_milli, point.y_milli))
 }
 
 // Whether there is a local point, and it lies in the bounds and the clip.
-fn is_inside(bounds: OptionalRect, clip: OptionalRect, local: LocalPoint) -> bool
+fn is_inside(bounds: Option<SurfaceRect>, clip: Option<SurfaceRect>, local: Option<Point>) -> bool
     ensures { result ≡ lies_inside bounds clip local }
 {
-    match local {
-        LocalPoint::At(point) => is_allowed(bounds, point) && is_allowed(clip, point),
-        LocalPoint::Skipped => false,
-    }
+    local.is_some_and(|point| is_allowed(bounds, point) && is_allowed(clip, point))
 }
 
 // Whether a rectangle is present and has a side of 0.
-fn has_zero_side(rect: OptionalRect) -> bool
+fn has_zero_side(rect: Option<SurfaceRect>) -> bool
     ensures { result ≡ has_zero_side rect }
 {
-    match rect {
-        OptionalRect::None => false,
-        OptionalRect::Some(present) => is_empty(present.width_milli, present.height_milli),
-    }
+    rect.is_some_and(|present| present.is_empty())
 }
 
 // Whether the matrix's determinant, worked out in whole numbers, is 0.
@@ -54,51 +45,41 @@ fn is_singular(transform: SurfaceTransform) -> bool
 }
 
 // Whether the geometry is accepted; false is refusal 13.
+#[tactic(auto, unfolding(crate::specs::Surface::is_valid_geometry))]
 pub fn validate_geometry(geometry: SurfaceGeometry) -> bool
     ensures { result ≡ is_valid_geometry geometry }
 {
-    let bounds = geometry.bounds;
-    let clip = geometry.clip;
-    let transform = geometry.transform;
-    if has_zero_side(bounds) {
-        return false;
-    }
-    if has_zero_side(clip) {
-        return false;
-    }
-    if is_singular(transform) {
-        return false;
-    }
-    true
+    !has_zero_side(geometry.bounds)
+        && !has_zero_side(geometry.clip)
+        && !is_singular(geometry.transform)
 }
 
-impl SurfaceGeometry {
+impl Default for SurfaceGeometry {
     // A panel that fills its view, opaque and open to hit tests.
-    pub fn default() -> Self
+    fn default() -> Self
         ensures { result ≡ default_geometry }
     {
-        let transform = SurfaceTransform::default();
         Self {
-            bounds: OptionalRect::None,
-            clip: OptionalRect::None,
-            transform,
+            bounds: None,
+            clip: None,
+            transform: SurfaceTransform::default(),
             opacity_q16: 65535,
             hit_test_enabled: true,
         }
     }
+}
 
+impl SurfaceGeometry {
     // Whether the view's point hits the panel.
+    #[tactic(auto, unfolding(crate::specs::Surface::is_hit))]
     pub fn is_hit(self, x_milli: i32, y_milli: i32) -> bool
         ensures { result ≡ is_hit self x_milli y_milli }
     {
-        let bounds = self.bounds;
-        let clip = self.clip;
-        let transform = self.transform;
-        if self.hit_test_enabled {
-            let local = transform.inverse_point(x_milli, y_milli);
-            is_inside(bounds, clip, local)
-        } else {
-            false
-        }
+        self.hit_test_enabled
+            && is_inside(
+                self.bounds,
+                self.clip,
+                self.transform.inverse_point(x_milli, y_milli),
+            )
     }
 }

@@ -12,7 +12,6 @@ use Rattle.lists.proofs.BelowLaws.{all_at, count_none, count_some}
 use Rattle.handles.specs.declared.GenerationalHandle.{GenerationalHandle}
 use Rattle.handles.specs.declared.arena.Arena.{Arena}
 use Rattle.handles.specs.declared.arena.Allocation.{Allocation}
-use Rattle.handles.specs.declared.arena.ReleaseOutcome.TheVariants.{Released}
 use Rattle.handles.specs.declared.arena.SlotStatus.TheVariants.{Live, Stale}
 use Rattle.handles.specs.Slots.{empty_arena, slot_at, lookup_of, has_room, allocated, from_free, from_unused, released, emptied, is_exhausted, none_exhausted, live_handles, used_places}
 use Rattle.handles.specs.WellFormed.{is_filled}
@@ -24,6 +23,7 @@ use Rattle.handles.proofs.AllocateUnusedLaws.{unused_sound, unused_issues}
 use Rattle.handles.proofs.ReleaseLaws.{by_release, accepted, accepts, emptied_others, emptied_sound}
 use Rattle.handles.proofs.StaleLaws.{past_stale, past_released, stays}
 use Rattle.handles.proofs.ListedLaws.{places, listed_of, of_listed, listed_length}
+use Rattle.std.specs.Prelude.{Ok}
 
 new_sound : (limit : ℕ) → Sound empty_arena limit
 unfolding empty_arena
@@ -104,7 +104,7 @@ module _ (a : Arena) (limit : ℕ) (p : Proper a limit) where
         formed = well_formed_lem (emptied a h) limit (emptied_sound a h c limit p.free s balanced);
       }))
 
-  live_released : (h : GenerationalHandle) → lookup_of a h ≡ Live → (h.generation ≡ 4294967295 → ⊥) → (released a h).outcome ≡ Released
+  live_released : (h : GenerationalHandle) → lookup_of a h ≡ Live → (h.generation ≡ 4294967295 → ⊥) → (released a h).outcome ≡ Ok tt
   live_released h e n =
       let f = live_facts a h e in
       let some : 0 < a.live = rw s.counted (count_some (is_filled a.slots) a.used h.index f.used f.filled) in
@@ -116,7 +116,7 @@ module _ (a : Arena) (limit : ℕ) (p : Proper a limit) where
   all_places : used_places a ≡ a.used
   all_places = places a s.within_limit.used.table
 
-  preflight_releases : (h : GenerationalHandle) → none_exhausted a ≡ true → lookup_of a h ≡ Live → (released a h).outcome ≡ Released
+  preflight_releases : (h : GenerationalHandle) → none_exhausted a ≡ true → lookup_of a h ≡ Live → (released a h).outcome ≡ Ok tt
   unfolding none_exhausted
   preflight_releases h t e =
       let f = live_facts a h e in
@@ -143,7 +143,7 @@ module _ (a : Arena) (limit : ℕ) (p : Proper a limit) where
   listed_count : length (live_handles a) ≡ a.live
   listed_count = rw all_places (listed_length a.slots a.used ∙ sym s.counted)
 
-released_stale : (a : Arena) (h : GenerationalHandle) → (released a h).outcome ≡ Released → lookup_of (released a h).arena h ≡ Stale
+released_stale : (a : Arena) (h : GenerationalHandle) → (released a h).outcome ≡ Ok tt → lookup_of (released a h).arena h ≡ Stale
 released_stale a h d = past_stale h (released a h).arena (past_released h a (accepted a h d))
 
 release_others : (a : Arena) (h g : GenerationalHandle) → (g.index ≡ h.index → ⊥) → lookup_of (released a h).arena g ≡ lookup_of a g

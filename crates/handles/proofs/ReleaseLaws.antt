@@ -16,8 +16,8 @@ use Rattle.handles.specs.declared.GenerationalHandle.{GenerationalHandle}
 use Rattle.handles.specs.declared.arena.Slot.{Slot}
 use Rattle.handles.specs.declared.arena.Arena.{Arena}
 use Rattle.handles.specs.declared.arena.ReleaseAnswer.{ReleaseAnswer}
-use Rattle.handles.specs.declared.arena.ReleaseOutcome.{ReleaseOutcome}
-use Rattle.handles.specs.declared.arena.ReleaseOutcome.TheVariants as outcome
+use Rattle.handles.specs.declared.arena.ReleaseError.{ReleaseError}
+use Rattle.handles.specs.declared.arena.ReleaseError.TheVariants as error
 use Rattle.handles.specs.declared.arena.SlotStatus.{SlotStatus}
 use Rattle.handles.specs.declared.arena.SlotStatus.TheVariants.{Live, Invalid, Stale}
 use Rattle.handles.specs.Slots.{slot_of, slot_at, lookup_of, refused, emptied, released, released_as}
@@ -26,12 +26,7 @@ use Rattle.handles.proofs.OccurrenceLaws.{occurs_append, occurs_here, occurs_apa
 use Rattle.handles.proofs.SoundLaws.{Sound}
 use Rattle.handles.proofs.SlotLaws.{by_same, slot_other, slot_changed, filled_within}
 use Rattle.handles.proofs.LookupLaws.{LiveAt, live_facts, same_lookup}
-
-abbrev is_released : ReleaseOutcome → Bool
-is_released outcome.Released = true
-is_released outcome.Invalid = false
-is_released outcome.Stale = false
-is_released outcome.GenerationExhausted = false
+use Rattle.std.specs.Prelude.{Ok, Err, is_ok}
 
 -- a release that is accepted
 pub record Accepted (a : Arena) (h : GenerationalHandle) : Type 0 where
@@ -46,37 +41,37 @@ module _ (a : Arena) (h : GenerationalHandle) where
   by_status e = ap (λ (s : SlotStatus). released_as s a h) e
 
   taken : lookup_of a h ≡ Live → eqb h.generation 4294967295 ≡ false → leb 64 a.freed ≡ false → eqb a.live 0 ≡ false
-      → released a h ≡ record { outcome = outcome.Released; arena = emptied a h }
+      → released a h ≡ record { outcome = Ok tt; arena = emptied a h }
   taken e t u v = by_status e ∙ simp (t, u, v)
 
   -- a release changes nothing, or is accepted
-  pub by_release : {P : Type 0} → ((released a h).arena ≡ a → ((released a h).outcome ≡ outcome.Released → ⊥) → P) → (Accepted a h → P) → P
+  pub by_release : {P : Type 0} → ((released a h).arena ≡ a → ((released a h).outcome ≡ Ok tt → ⊥) → P) → (Accepted a h → P) → P
   by_release {P} f g = pick (lookup_of a h) refl
     where
-      kept : (o : ReleaseOutcome) → is_released o ≡ false → released a h ≡ refused o a → P
-      kept o n e = f (ap (λ (r : ReleaseAnswer). r.arena) e) (λ d. clash (ap is_released (sym (ap (λ (r : ReleaseAnswer). r.outcome) e) ∙ d)) n)
+      kept : (x : ReleaseError) → released a h ≡ refused x a → P
+      kept x e = f (ap (λ (r : ReleaseAnswer). r.arena) e) (λ d. clash (ap is_ok (sym (ap (λ (r : ReleaseAnswer). r.outcome) e) ∙ d)) refl)
 
       pick : (s : SlotStatus) → lookup_of a h ≡ s → P
       pick Live e = by_test (eqb h.generation 4294967295)
-          (λ t. kept outcome.GenerationExhausted refl (by_status e ∙ simp t))
+          (λ t. kept error.GenerationExhausted (by_status e ∙ simp t))
           (λ t. by_test (leb 64 a.freed)
-          (λ u. kept outcome.Invalid refl (by_status e ∙ simp (t, u)))
+          (λ u. kept error.Invalid (by_status e ∙ simp (t, u)))
           (λ u. by_test (eqb a.live 0)
-          (λ v. kept outcome.Invalid refl (by_status e ∙ simp (t, u, v)))
+          (λ v. kept error.Invalid (by_status e ∙ simp (t, u, v)))
           (λ v. g (record {
             live = live_facts a h e;
             room = leb-false 64 a.freed u;
             some = eqb-false a.live 0 v;
             next = ap (λ (r : ReleaseAnswer). r.arena) (taken e t u v);
           }))))
-      pick Invalid e = kept outcome.Invalid refl (by_status e)
-      pick Stale e = kept outcome.Stale refl (by_status e)
+      pick Invalid e = kept error.Invalid (by_status e)
+      pick Stale e = kept error.Stale (by_status e)
 
-  pub accepted : (released a h).outcome ≡ outcome.Released → Accepted a h
+  pub accepted : (released a h).outcome ≡ Ok tt → Accepted a h
   accepted d = by_release (λ k n. absurd (n d)) (λ c. c)
 
   -- with room in the free list and a live count, only the last generation is refused
-  pub accepts : lookup_of a h ≡ Live → (h.generation ≡ 4294967295 → ⊥) → a.freed < 64 → (a.live ≡ 0 → ⊥) → (released a h).outcome ≡ outcome.Released
+  pub accepts : lookup_of a h ≡ Live → (h.generation ≡ 4294967295 → ⊥) → a.freed < 64 → (a.live ≡ 0 → ⊥) → (released a h).outcome ≡ Ok tt
   accepts e n r l = ap (λ (r : ReleaseAnswer). r.outcome) (taken e (ne_eqb _ _ n) (lt-leb 64 a.freed r) (ne_eqb a.live 0 l))
 
   module _ (c : Accepted a h) where

@@ -18,3 +18,5 @@ module _ (used freed live : ℕ) (room : has_room used freed live ≡ true) wher
 
   pub used_below : freed ≤ 0 → used < 64
   used_below none = ltb-true _ _ (simp (le-ltb 0 freed none) at (and_right (ltb live 64) _ rest))
+
+pub ruleset room = (live_below, used_below)

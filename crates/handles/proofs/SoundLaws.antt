@@ -1,19 +1,20 @@
 -- A well-formed table as facts: each part of the test is a fact, and the facts together make the test.
 use Prim.Native.Nat.{ℕ, ◌+◌, ◌≤◌, ◌<◌}
 use mathlib.Core.Path.{◌≡◌}
-use mathlib.Core.Bool.{true}
+use mathlib.Core.Bool.{true, not}
 use native.Mathlib.Omega.{arith}
-use lib.ListN.{length}
+use lib.ListN.{length, take}
 use lib.Seq.{length-take-le}
-use lib.Dec.{leb}
+use lib.Dec.{leb, eqb}
 use borrow.Author.Tests.{leb-true, le-leb, eqb-true, eq-eqb}
-use Rattle.lists.specs.Lists.{all}
+use Rattle.lists.specs.Lists.{all, keep}
 use Rattle.lists.specs.Below.{count_below}
 use Rattle.lists.proofs.ListLaws.{and_left, and_right, and_both}
+use Rattle.lists.proofs.PlaceLaws.{all_places, count_places}
 use Rattle.lists.proofs.BelowLaws.{all_at, all_of}
 use Rattle.handles.proofs.OccurrenceLaws.{each_once}
 use Rattle.handles.specs.declared.arena.Arena.{Arena}
-use Rattle.handles.specs.Slots.{slot_at}
+use Rattle.handles.specs.Slots.{no_slot, slot_at}
 use Rattle.handles.specs.WellFormed.{is_within, counts_within, has_generation, generations_set, is_filled, live_is_filled, free_list, is_below, occurrences_of, entries_due, stands_as_due, well_formed}
 
 -- a count within its table and the limit
@@ -41,6 +42,21 @@ counts a limit h =
       freed = within limit a.freed (and_left (is_within limit a.freed) _ rest);
       live = within limit a.live (and_right (is_within limit a.freed) _ rest);
     }
+
+pub used_within : (a : Arena) (limit : ℕ) → counts_within a limit ≡ true → a.used ≤ 64
+used_within a limit h = (counts a limit h).used.table
+
+pub freed_within : (a : Arena) (limit : ℕ) → counts_within a limit ≡ true → a.freed ≤ 64
+freed_within a limit h = (counts a limit h).freed.table
+
+-- the tests of the used slots are those of the indices below their number
+pub front_aged : (a : Arena) → a.used ≤ length a.slots → all (λ s. not (eqb s.generation 0)) (take a.used a.slots) ≡ generations_set a
+front_aged a h = all_places (λ s. not (eqb s.generation 0)) a.slots no_slot a.used h
+
+pub front_filled : (a : Arena) → a.used ≤ length a.slots → length (keep (λ s. s.filled) (take a.used a.slots)) ≡ count_below (is_filled a.slots) a.used
+front_filled a h = count_places (λ s. s.filled) a.slots no_slot a.used h
+
+pub ruleset fronts = (used_within, freed_within, front_aged, front_filled)
 
 pub record Sound (a : Arena) (limit : ℕ) : Type 0 where
   pub within_limit : Counts a limit

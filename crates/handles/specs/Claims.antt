@@ -1,12 +1,11 @@
 -- What holds of every slot table beyond the answers of its calls: what RULES.md, Slots, says of handles.
-use Rattle.std.specs.Prelude.{ℕ, ◌≤◌, ◌<◌, ◌≡◌, Bool, true, false, length}
+use Rattle.std.specs.Prelude.{Ok, ℕ, ◌≤◌, ◌<◌, ◌≡◌, Bool, true, false, length}
 use mathlib.Core.List.{List, [], ◌∷◌, Memᴰ}
 use Rattle.handles.specs.declared.GenerationalHandle.{GenerationalHandle}
 use Rattle.handles.specs.declared.arena.Arena.{Arena}
 use Rattle.handles.specs.declared.arena.Allocation.{Allocation}
 use Rattle.handles.specs.declared.arena.SlotStatus.{SlotStatus}
 use Rattle.handles.specs.declared.arena.SlotStatus.TheVariants.{Live, Invalid, Stale}
-use Rattle.handles.specs.declared.arena.ReleaseOutcome.TheVariants.{Released}
 use Rattle.handles.specs.Slots.{empty_arena, lookup_of, allocated, released, none_exhausted, live_handles}
 use Rattle.handles.specs.WellFormed.{well_formed}
 
@@ -66,17 +65,17 @@ pub record ArenaClaims : Type 0 where
       → Issues a (allocated a first)
   -- a live handle is released, unless its generation is the last
   pub live_released : (a : Arena) (limit : ℕ) (h : GenerationalHandle) → Proper a limit → lookup_of a h ≡ Live
-      → (h.generation ≡ 4294967295 → ⊥) → (released a h).outcome ≡ Released
+      → (h.generation ≡ 4294967295 → ⊥) → (released a h).outcome ≡ Ok tt
   -- after the shutdown's test every live handle is released
   pub preflight_releases : (a : Arena) (limit : ℕ) (h : GenerationalHandle) → Proper a limit → none_exhausted a ≡ true
-      → lookup_of a h ≡ Live → (released a h).outcome ≡ Released
+      → lookup_of a h ≡ Live → (released a h).outcome ≡ Ok tt
   -- a released handle is stale, and every handle of another slot keeps its answer
-  pub released_stale : (a : Arena) (h : GenerationalHandle) → (released a h).outcome ≡ Released
+  pub released_stale : (a : Arena) (h : GenerationalHandle) → (released a h).outcome ≡ Ok tt
       → lookup_of (released a h).arena h ≡ Stale
   pub release_others : (a : Arena) (h g : GenerationalHandle) → (g.index ≡ h.index → ⊥)
       → lookup_of (released a h).arena g ≡ lookup_of a g
   -- a released handle stays stale whatever follows
-  pub stays_stale : (a : Arena) (h : GenerationalHandle) (l : List Operation) → (released a h).outcome ≡ Released
+  pub stays_stale : (a : Arena) (h : GenerationalHandle) (l : List Operation) → (released a h).outcome ≡ Ok tt
       → lookup_of (after_all l (released a h).arena) h ≡ Stale
   -- the listed handles are the live ones, as many as the live count
   pub live_listed : (a : Arena) (limit : ℕ) (h : GenerationalHandle) → Proper a limit → lookup_of a h ≡ Live

@@ -1,9 +1,7 @@
 -- Handles: their validity, equality and order.
-use Rattle.std.specs.Prelude.{ℕ, Bool, true, false, not, ◌&&◌, eqb}
+use Rattle.std.specs.Prelude.{ℕ, Bool, true, false, not, ◌&&◌, eqb, Option, None, Some}
 use Rattle.lists.specs.Orders.{pair_lt, pair_same}
 use Rattle.handles.specs.declared.GenerationalHandle.{GenerationalHandle}
-use Rattle.handles.specs.declared.OptionalHandle.{OptionalHandle}
-use Rattle.handles.specs.declared.OptionalHandle.TheVariants.{None, Some}
 
 -- the handle of an index and a generation
 abbrev pub handle_of : ℕ → ℕ → GenerationalHandle
@@ -30,16 +28,16 @@ abbrev pub handle_lt : GenerationalHandle → GenerationalHandle → Bool
 handle_lt a b = pair_lt (handle_key a) (handle_key b)
 
 -- the optional handle is this handle
-abbrev pub holds_handle : OptionalHandle → GenerationalHandle → Bool
+abbrev pub holds_handle : Option GenerationalHandle → GenerationalHandle → Bool
 holds_handle None h = false
 holds_handle (Some g) h = same_handle g h
 
 -- there is no handle
-abbrev pub is_none : OptionalHandle → Bool
+abbrev pub is_none : Option GenerationalHandle → Bool
 is_none None = true
 is_none (Some h) = false
 
 -- two optional handles are the same: both none, or both the same handle
-abbrev pub same_optional : OptionalHandle → OptionalHandle → Bool
+abbrev pub same_optional : Option GenerationalHandle → Option GenerationalHandle → Bool
 same_optional a None = is_none a
 same_optional a (Some h) = holds_handle a h

@@ -1,18 +1,19 @@
 -- The slot table: what each of its calls answers.
-use Rattle.std.specs.Prelude.{ℕ, ◌+◌, ◌-◌, refl, Bool, true, false, cond, not, ◌&&◌, ◌||◌, List, [], ◌∷◌, ◌++◌, get_or, set, replicate, ltb, leb, eqb}
+use Rattle.std.specs.Prelude.{Result, Ok, Err, ℕ, ◌+◌, ◌-◌, ltb, leb, eqb, Bool, true, false, cond, not, ◌&&◌, ◌||◌}
+use Rattle.std.specs.Prelude.{List, [], ◌∷◌, ◌++◌, get_or, set, replicate}
 use Rattle.lists.specs.Below.{all_below, iter_below}
-use Rattle.lists.specs.Tables.{Shape}
+use Rattle.lists.specs.declared.table.Table.{Table}
+use Rattle.lists.specs.Tables.{Shape, table}
 use Rattle.handles.specs.Handles.{handle_of, invalid_handle, is_valid}
 use Rattle.handles.specs.declared.GenerationalHandle.{GenerationalHandle}
 use Rattle.handles.specs.declared.arena.Slot.{Slot}
 use Rattle.handles.specs.declared.arena.Arena.{Arena}
-use Rattle.handles.specs.declared.arena.Handles.{Handles}
 use Rattle.handles.specs.declared.arena.Allocation.{Allocation}
 use Rattle.handles.specs.declared.arena.ReleaseAnswer.{ReleaseAnswer}
 use Rattle.handles.specs.declared.arena.SlotStatus.{SlotStatus}
 use Rattle.handles.specs.declared.arena.SlotStatus.TheVariants.{Live, Invalid, Stale}
-use Rattle.handles.specs.declared.arena.ReleaseOutcome.{ReleaseOutcome}
-use Rattle.handles.specs.declared.arena.ReleaseOutcome.TheVariants as outcome
+use Rattle.handles.specs.declared.arena.ReleaseError.{ReleaseError}
+use Rattle.handles.specs.declared.arena.ReleaseError.TheVariants as error
 
 -- the slot of a generation, filled or empty
 abbrev pub slot_of : ℕ → Bool → Slot
@@ -75,9 +76,13 @@ allocated a first =
     cond (has_room a.used a.freed a.live) (cond (ltb 0 a.freed) (from_free a) (from_unused a first))
     (record { handle = invalid_handle; arena = a })
 
+-- whether a release is accepted, or why it is refused
+abbrev pub ReleaseOutcome : Type 0
+ReleaseOutcome = Result (Unit {0}) ReleaseError
+
 -- a release that changes nothing
-abbrev pub refused : ReleaseOutcome → Arena → ReleaseAnswer
-refused o a = record { outcome = o; arena = a }
+abbrev pub refused : ReleaseError → Arena → ReleaseAnswer
+refused e a = record { outcome = Err e; arena = a }
 
 -- the slot is empty, one generation on, and last in the free list
 abbrev pub emptied : Arena → GenerationalHandle → Arena
@@ -86,19 +91,18 @@ emptied a h =
     (set a.free a.freed h.index) (a.freed + 1) (a.live - 1)
 
 -- a live handle is released, unless its generation is the last; a free list that is full or a live count of 0 is
--- refused
--- too, which is never met: the damage test has counted the live slots and the free list before
+-- refused too, which is never met: the damage test has counted the live slots and the free list before
 abbrev pub released_live : Arena → GenerationalHandle → ReleaseAnswer
 released_live a h =
-    cond (eqb h.generation 4294967295) (refused outcome.GenerationExhausted a)
-    (cond (leb 64 a.freed || eqb a.live 0) (refused outcome.Invalid a)
-    (record { outcome = outcome.Released; arena = emptied a h }))
+    cond (eqb h.generation 4294967295) (refused error.GenerationExhausted a)
+    (cond (leb 64 a.freed || eqb a.live 0) (refused error.Invalid a)
+    (record { outcome = Ok tt; arena = emptied a h }))
 
 -- what a release does by the status of the handle
 abbrev pub released_as : SlotStatus → Arena → GenerationalHandle → ReleaseAnswer
 released_as Live a h = released_live a h
-released_as Invalid a h = refused outcome.Invalid a
-released_as Stale a h = refused outcome.Stale a
+released_as Invalid a h = refused error.Invalid a
+released_as Stale a h = refused error.Stale a
 
 -- a handle that is not live is refused as its lookup answers
 unfoldable pub released : Arena → GenerationalHandle → ReleaseAnswer
@@ -129,13 +133,5 @@ abbrev pub live_handles : Arena → List GenerationalHandle
 live_handles a = handles_below a.slots (used_places a)
 
 -- a list of handles as a table of 64
-abbrev pub handles_table : Shape GenerationalHandle Handles
-handles_table = record {
-  size = 64;
-  blank = handle_of 0 0;
-  make = λ l n. record { items = l; len = n };
-  all = λ t. t.items;
-  len = λ t. t.len;
-  all_make = λ l n. refl;
-  len_make = λ l n. refl;
-}
+abbrev pub handles_table : Shape GenerationalHandle (Table GenerationalHandle 64)
+handles_table = table 64 (handle_of 0 0)

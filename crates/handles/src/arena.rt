@@ -1,7 +1,8 @@
 // A slot table: slots are issued from the free list, the last freed first, and then from those never used.
 // What a slot holds stands elsewhere, in an array by slot index.
-ghost use Rattle.std.specs.Prelude.{◌≡◌, ◌<◌, get_or, set};
-ghost use Rattle.lists.specs.Tables.{packed, pushed};
+ghost use Rattle.std.specs.Prelude.{◌≡◌, ◌<◌, not, get_or};
+ghost use Rattle.lists.specs.Lists.{all};
+ghost use Rattle.lists.specs.Tables.{packed};
 ghost use Rattle.handles.specs.Slots.{
   no_slot,
   empty_arena,
@@ -16,12 +17,14 @@ ghost use Rattle.handles.specs.Slots.{
   used_places,
   none_exhausted,
   is_exhausted,
+  refused,
   handles_table,
   live_handles,
 };
 
 use crate::GenerationalHandle;
-use lists::both;
+use lists::array::{item_or, with_item};
+use lists::table::Table;
 
 // The places of the table: one form holds windows, views and panels.
 pub const SLOTS: usize = 64;
@@ -31,14 +34,47 @@ const LAST_GENERATION: u32 = 4294967295;
 
 // One place of the table. The generation is that of the handle last issued for it, or, where it is empty, of the next.
 #[repr(C)]
-#[derive(Clone, Copy)]
+#[derive(Clone, Copy, PartialEq, Eq)]
 pub struct Slot {
     pub generation: u32,
     pub filled: bool,
 }
 
+impl Slot {
+    // A slot that was never used.
+    pub const UNUSED: Self = Self {
+        generation: 0,
+        filled: false,
+    };
+
+    // What the slot, once used, is to a handle's generation.
+    fn status_of(self, generation: u32) -> SlotStatus
+        ensures { result ≡ status_of self generation }
+    {
+        if self.filled && self.generation == generation {
+            SlotStatus::Live
+        } else {
+            SlotStatus::Stale
+        }
+    }
+
+    // Whether the slot is filled, and cannot be released.
+    fn is_exhausted(self) -> bool
+        ensures { result ≡ is_exhausted self }
+    {
+        self.filled && self.generation == LAST_GENERATION
+    }
+}
+
+#[derive(Clone, Copy, PartialEq, Eq)]
+pub enum SlotStatus {
+    Live,
+    Invalid,
+    Stale,
+}
+
 // The first `used` slots were issued at some time; the first `freed` places of `free` are the indices of the empty
-// ones.
+// ones. A host's memory has this very struct, and C knows no table with parameters, so the counts are fields.
 #[repr(C)]
 #[derive(Clone, Copy)]
 pub struct Arena {
@@ -50,93 +86,49 @@ pub struct Arena {
 }
 
 impl Arena {
+    #[tactic(auto, unfolding(crate::specs::Slots::empty_arena))]
     pub fn new() -> Self
         ensures { result ≡ empty_arena }
     {
         Self {
-            slots: [Slot {
-                generation: 0,
-                filled: false,
-            }; SLOTS],
+            slots: [Slot::UNUSED; SLOTS],
             used: 0,
             free: [0; SLOTS],
             freed: 0,
             live: 0,
         }
     }
+
+    // Whether a slot can be issued: one is free or was never used, and every count is within the table.
+    #[tactic(auto, unfolding(crate::specs::Slots::has_room))]
+    fn has_room(&self) -> bool
+        ensures { result ≡ has_room self.now.used self.now.freed self.now.live }
+    {
+        self.used <= SLOTS
+            && self.freed <= SLOTS
+            && self.live < SLOTS
+            && (self.freed > 0 || self.used < SLOTS)
+    }
 }
 
-// Past the end of the table a read is an empty slot or 0, and a write does nothing.
+// Past the end of the table a read is an empty slot.
 pub fn slot_at(slots: [Slot; SLOTS], i: usize) -> Slot
     ensures { result ≡ get_or slots i no_slot }
 {
-    if i < SLOTS {
-        slots[i]
-    } else {
-        Slot {
-            generation: 0,
-            filled: false,
-        }
-    }
-}
-
-fn set_slot(slots: [Slot; SLOTS], i: usize, s: Slot) -> [Slot; SLOTS]
-    ensures { result ≡ set slots i s }
-{
-    let mut changed = slots;
-    if i < SLOTS {
-        changed[i] = s;
-    }
-    changed
-}
-
-fn free_at(free: [u32; SLOTS], i: usize) -> u32
-    ensures { result ≡ get_or free i 0 }
-{
-    if i < SLOTS { free[i] } else { 0 }
-}
-
-fn set_free(free: [u32; SLOTS], i: usize, index: u32) -> [u32; SLOTS]
-    ensures { result ≡ set free i index }
-{
-    let mut changed = free;
-    if i < SLOTS {
-        changed[i] = index;
-    }
-    changed
-}
-
-#[derive(Clone, Copy)]
-pub enum SlotStatus {
-    Live,
-    Invalid,
-    Stale,
-}
-
-// What a used slot is to a handle's generation.
-fn status_of(s: Slot, generation: u32) -> SlotStatus
-    ensures { result ≡ status_of s generation }
-{
-    if s.filled {
-        if s.generation == generation {
-            return SlotStatus::Live;
-        }
-    }
-    SlotStatus::Stale
+    item_or(&slots, i, Slot::UNUSED)
 }
 
 // Whether a handle names a slot's present life, no slot that was ever used, or a life that is over.
+#[tactic(auto, unfolding(crate::specs::Slots::lookup_of))]
 pub fn lookup(a: Arena, h: GenerationalHandle) -> SlotStatus
     ensures { result ≡ lookup_of a h }
 {
-    if h.is_valid() {
-        let i = h.index as usize;
-        if i < a.used {
-            let slots = a.slots;
-            return status_of(slot_at(slots, i), h.generation);
-        }
+    let i = h.index as usize;
+    if h.is_valid() && i < a.used {
+        slot_at(a.slots, i).status_of(h.generation)
+    } else {
+        SlotStatus::Invalid
     }
-    SlotStatus::Invalid
 }
 
 #[derive(Clone, Copy)]
@@ -145,54 +137,26 @@ pub struct Allocation {
     pub arena: Arena,
 }
 
-// Whether a slot can be issued: one is free or was never used, and every count is within the table.
-fn has_room(used: usize, freed: usize, live: usize) -> bool
-    ensures { result ≡ has_room used freed live }
-{
-    if used > SLOTS {
-        return false;
-    }
-    if freed > SLOTS {
-        return false;
-    }
-    if live >= SLOTS {
-        return false;
-    }
-    if freed > 0 {
-        return true;
-    }
-    used < SLOTS
-}
-
 // No well-formed arena has an entry of the free list that is past the used slots.
 fn allocate_freed(a: Arena) -> Allocation
     requires { (0 < a.freed) × (a.live < 64) }
     ensures { result ≡ from_free a }
 {
-    let slots = a.slots;
-    let free = a.free;
     let last = a.freed - 1;
-    let index = free_at(free, last);
-    let s = slot_at(slots, index as usize);
-    let issued = set_slot(
-        slots,
-        index as usize,
-        Slot {
-            generation: s.generation,
-            filled: true,
-        },
-    );
+    let index = item_or(&a.free, last, 0);
+    let at = index as usize;
+    let generation = slot_at(a.slots, at).generation;
+    let issued = Slot {
+        generation,
+        filled: true,
+    };
     Allocation {
-        handle: GenerationalHandle {
-            index: index,
-            generation: s.generation,
-        },
+        handle: GenerationalHandle { index, generation },
         arena: Arena {
-            slots: issued,
-            used: a.used,
-            free: free,
+            slots: with_item(a.slots, at, issued),
             freed: last,
             live: a.live + 1,
+            ..a
         },
     }
 }
@@ -201,56 +165,51 @@ fn allocate_unused(a: Arena, first_generation: u32) -> Allocation
     requires { (a.used < 64) × (a.live < 64) }
     ensures { result ≡ from_unused a first_generation }
 {
-    let slots = a.slots;
-    let free = a.free;
-    let used = a.used;
-    let issued = set_slot(
-        slots,
-        used,
-        Slot {
-            generation: first_generation,
-            filled: true,
-        },
-    );
+    let issued = Slot {
+        generation: first_generation,
+        filled: true,
+    };
     Allocation {
         handle: GenerationalHandle {
-            index: used as u32,
+            index: a.used as u32,
             generation: first_generation,
         },
         arena: Arena {
-            slots: issued,
-            used: used + 1,
-            free: free,
-            freed: a.freed,
+            slots: with_item(a.slots, a.used, issued),
+            used: a.used + 1,
             live: a.live + 1,
+            ..a
         },
     }
 }
 
 // Issues the slot freed last, else the next never used, with `first_generation`. Where there is none, the handle is
-// INVALID.
+// INVALID: no Option, since a caller has tested its limit before, and an allocation cannot fail.
+#[tactic(auto, using(crate::proofs::RoomLaws::room), unfolding(crate::specs::Slots::allocated))]
 pub fn allocate(a: Arena, first_generation: u32) -> Allocation
     ensures { result ≡ allocated a first_generation }
 {
-    if has_room(a.used, a.freed, a.live) {
-        if a.freed > 0 {
-            return allocate_freed(a);
+    if !a.has_room() {
+        Allocation {
+            handle: GenerationalHandle::INVALID,
+            arena: a,
         }
-        return allocate_unused(a, first_generation);
-    }
-    Allocation {
-        handle: GenerationalHandle::INVALID,
-        arena: a,
+    } else if a.freed > 0 {
+        allocate_freed(a)
+    } else {
+        allocate_unused(a, first_generation)
     }
 }
 
-#[derive(Clone, Copy)]
-pub enum ReleaseOutcome {
-    Released,
+// Why a handle cannot be released.
+#[derive(Clone, Copy, PartialEq, Eq)]
+pub enum ReleaseError {
     Invalid,
     Stale,
     GenerationExhausted,
 }
+
+pub type ReleaseOutcome = Result<(), ReleaseError>;
 
 #[derive(Clone, Copy)]
 pub struct ReleaseAnswer {
@@ -258,66 +217,50 @@ pub struct ReleaseAnswer {
     pub arena: Arena,
 }
 
+fn refused(error: ReleaseError, arena: Arena) -> ReleaseAnswer
+    ensures { result ≡ refused error arena }
+{
+    ReleaseAnswer {
+        outcome: Err(error),
+        arena,
+    }
+}
+
 // Empties the slot of a live handle. No well-formed arena with a live slot has a full free list or a live count of 0.
 fn release_live(a: Arena, h: GenerationalHandle) -> ReleaseAnswer
     ensures { result ≡ released_live a h }
 {
     if h.generation == LAST_GENERATION {
-        return ReleaseAnswer {
-            outcome: ReleaseOutcome::GenerationExhausted,
-            arena: a,
-        };
+        return refused(ReleaseError::GenerationExhausted, a);
     }
-    let freed = a.freed;
-    if freed >= SLOTS {
-        return ReleaseAnswer {
-            outcome: ReleaseOutcome::Invalid,
-            arena: a,
-        };
+    if a.freed >= SLOTS || a.live == 0 {
+        return refused(ReleaseError::Invalid, a);
     }
-    if a.live == 0 {
-        return ReleaseAnswer {
-            outcome: ReleaseOutcome::Invalid,
-            arena: a,
-        };
-    }
-    let slots = a.slots;
-    let free = a.free;
-    let emptied = set_slot(
-        slots,
-        h.index as usize,
-        Slot {
-            generation: h.generation + 1,
-            filled: false,
-        },
-    );
-    let longer = set_free(free, freed, h.index);
+    let emptied = Slot {
+        generation: h.generation + 1,
+        filled: false,
+    };
     ReleaseAnswer {
-        outcome: ReleaseOutcome::Released,
+        outcome: Ok(()),
         arena: Arena {
-            slots: emptied,
+            slots: with_item(a.slots, h.index as usize, emptied),
             used: a.used,
-            free: longer,
-            freed: freed + 1,
+            free: with_item(a.free, a.freed, h.index),
+            freed: a.freed + 1,
             live: a.live - 1,
         },
     }
 }
 
 // Ends a live handle: its slot is empty, moves on by one generation, and is the next to be issued.
+#[tactic(auto, unfolding(crate::specs::Slots::released))]
 pub fn release(a: Arena, h: GenerationalHandle) -> ReleaseAnswer
     ensures { result ≡ released a h }
 {
     match lookup(a, h) {
         SlotStatus::Live => release_live(a, h),
-        SlotStatus::Invalid => ReleaseAnswer {
-            outcome: ReleaseOutcome::Invalid,
-            arena: a,
-        },
-        SlotStatus::Stale => ReleaseAnswer {
-            outcome: ReleaseOutcome::Stale,
-            arena: a,
-        },
+        SlotStatus::Invalid => refused(ReleaseError::Invalid, a),
+        SlotStatus::Stale => refused(ReleaseError::Stale, a),
     }
 }
 
@@ -325,76 +268,39 @@ pub fn release(a: Arena, h: GenerationalHandle) -> ReleaseAnswer
 pub fn used_places(a: Arena) -> usize
     ensures { result ≡ used_places a }
 {
-    if a.used < SLOTS { a.used } else { SLOTS }
+    a.used.min(SLOTS)
 }
 
-fn is_exhausted(s: Slot) -> bool
-    ensures { result ≡ is_exhausted s }
+fn can_be_released(slots: &[Slot]) -> bool
+    ensures { result ≡ all (λ s. not (is_exhausted s)) slots.now }
 {
-    both(s.filled, s.generation == LAST_GENERATION)
+    slots.iter().all(|s| !s.is_exhausted())
 }
 
 // Whether every filled slot can be released: none is at the last generation.
+#[tactic(auto, using(crate::proofs::LiveLaws::front_exhausted))]
 pub fn preflight_release(a: Arena) -> bool
     ensures { result ≡ none_exhausted a }
 {
-    let slots = a.slots;
-    let n = used_places(a);
-    let mut ok = true;
-    let mut i: usize = 0;
-    while i < n {
-        let exhausted = is_exhausted(slot_at(slots, i));
-        ok = both(ok, !exhausted);
-        i += 1;
-    }
-    ok
+    can_be_released(&a.slots[..used_places(a)])
 }
 
-#[derive(Clone, Copy)]
-pub struct Handles {
-    pub items: [GenerationalHandle; SLOTS],
-    pub len: usize,
-}
-
-fn push(t: Handles, h: GenerationalHandle) -> Handles
-    requires { t.len < 64 }
-    ensures { result ≡ pushed handles_table t h }
-{
-    let mut items = t.items;
-    let at = t.len;
-    items[at] = h;
-    Handles {
-        items: items,
-        len: at + 1,
-    }
-}
+pub type Handles = Table<GenerationalHandle, SLOTS>;
 
 // The handles of the filled slots, in slot order.
+#[tactic(auto, using(crate::proofs::LiveLaws::turns))]
 pub fn live_handles(a: Arena) -> Handles
     ensures { result ≡ packed handles_table (live_handles a) }
 {
-    let slots = a.slots;
-    let n = used_places(a);
-    let mut live = Handles {
-        items: [GenerationalHandle {
-            index: 0,
-            generation: 0,
-        }; SLOTS],
-        len: 0,
-    };
-    let mut i: usize = 0;
-    while i < n {
-        let s = slot_at(slots, i);
-        if s.filled {
-            live = push(
-                live,
-                GenerationalHandle {
-                    index: i as u32,
-                    generation: s.generation,
-                },
-            );
+    let mut live = Handles::new();
+    for i in 0..used_places(a) {
+        let slot = a.slots[i];
+        if slot.filled {
+            live.push_in_place(GenerationalHandle {
+                index: i as u32,
+                generation: slot.generation,
+            });
         }
-        i += 1;
     }
     live
 }

@@ -1,11 +1,9 @@
 // Whether a slot table is one that its calls can have made: the test for damage, part by part.
-ghost use Rattle.std.specs.Prelude.{◌≡◌, ◌≤◌, take};
-ghost use Rattle.lists.specs.Lists.{all};
-ghost use Rattle.lists.specs.Below.{all_below, count_below};
+ghost use Rattle.std.specs.Prelude.{◌≡◌, not, length, take, eqb};
+ghost use Rattle.lists.specs.Lists.{all, keep};
+ghost use Rattle.lists.specs.Below.{all_below};
 ghost use Rattle.handles.specs.WellFormed.{
   is_within,
-  has_generation,
-  is_filled,
   is_below,
   occurrences_of,
   entries_due,
@@ -14,82 +12,44 @@ ghost use Rattle.handles.specs.WellFormed.{
   well_formed,
 };
 
-use crate::arena::{Arena, SLOTS, Slot};
-use lists::both;
+use crate::arena::{Arena, SLOTS, Slot, slot_at};
 
 fn is_within(count: usize, limit: usize) -> bool
     ensures { result ≡ is_within limit count }
 {
-    both(count <= SLOTS, count <= limit)
+    count <= SLOTS && count <= limit
 }
 
+#[tactic(auto, unfolding(crate::specs::WellFormed::counts_within))]
 fn counts_within(a: Arena, limit: usize) -> bool
     ensures { result ≡ counts_within a limit }
 {
-    let used = is_within(a.used, limit);
-    let freed = is_within(a.freed, limit);
-    let live = is_within(a.live, limit);
-    both(used, both(freed, live))
+    is_within(a.used, limit) && is_within(a.freed, limit) && is_within(a.live, limit)
 }
 
-fn generations_set(slots: [Slot; SLOTS], used: usize) -> bool
-    requires { used ≤ 64 }
-    ensures { result ≡ all_below (has_generation slots) used }
+fn generations_set(slots: &[Slot]) -> bool
+    ensures { result ≡ all (λ s. not (eqb s.generation 0)) slots.now }
 {
-    let mut ok = true;
-    let mut i: usize = 0;
-    while i < used {
-        let s = slots[i];
-        ok = both(ok, s.generation != 0);
-        i += 1;
-    }
-    ok
+    slots.iter().all(|s| s.generation != 0)
 }
 
-fn filled_count(slots: [Slot; SLOTS], used: usize) -> usize
-    requires { used ≤ 64 }
-    ensures { result ≡ count_below (is_filled slots) used }
+fn filled_count(slots: &[Slot]) -> usize
+    ensures { result ≡ length (keep (λ s. s.filled) slots.now) }
 {
-    let mut count: usize = 0;
-    let mut i: usize = 0;
-    while i < used {
-        let s = slots[i];
-        if s.filled {
-            count += 1;
-        }
-        i += 1;
-    }
-    count
+    slots.iter().filter(|s| s.filled).count()
 }
 
-fn entries_below(free: [u32; SLOTS], freed: usize, used: usize) -> bool
-    requires { freed ≤ 64 }
-    ensures { result ≡ all (is_below used) (take freed free) }
+fn entries_below(free: &[u32], used: usize) -> bool
+    ensures { result ≡ all (is_below used) free.now }
 {
-    let mut ok = true;
-    let mut i: usize = 0;
-    while i < freed {
-        let index = free[i];
-        ok = both(ok, (index as usize) < used);
-        i += 1;
-    }
-    ok
+    free.iter().all(|i| (*i as usize) < used)
 }
 
-fn occurrences(slot: usize, free: [u32; SLOTS], freed: usize) -> usize
-    requires { freed ≤ 64 }
-    ensures { result ≡ occurrences_of slot (take freed free) }
+#[tactic(auto, unfolding(crate::specs::WellFormed::occurrences_of))]
+fn occurrences(slot: usize, free: &[u32]) -> usize
+    ensures { result ≡ occurrences_of slot free.now }
 {
-    let mut count: usize = 0;
-    let mut i: usize = 0;
-    while i < freed {
-        let index = free[i];
-        if slot == (index as usize) {
-            count += 1;
-        }
-        i += 1;
-    }
-    count
+    free.iter().filter(|i| slot == (**i as usize)).count()
 }
 
 // How often a slot stands in the free list: once where it is empty.
@@ -99,36 +59,32 @@ fn entries_due(s: Slot) -> usize
     if s.filled { 0 } else { 1 }
 }
 
-fn each_stands_as_due(slots: [Slot; SLOTS], used: usize, free: [u32; SLOTS], freed: usize) -> bool
-    requires { (used ≤ 64) × (freed ≤ 64) }
-    ensures { result ≡ all_below (stands_as_due slots (take freed free)) used }
+#[tactic(auto, using(lists::proofs::BelowLaws::all_none, lists::proofs::BelowLaws::all_next))]
+fn each_stands_as_due(slots: [Slot; SLOTS], used: usize, free: &[u32]) -> bool
+    ensures { result ≡ all_below (stands_as_due slots free.now) used }
 {
-    let mut ok = true;
-    let mut i: usize = 0;
-    while i < used {
-        let count = occurrences(i, free, freed);
-        let due = entries_due(slots[i]);
-        ok = both(ok, count == due);
-        i += 1;
+    // The same by `all` over the range got no proof.
+    for i in 0..used {
+        if occurrences(i, free) != entries_due(slot_at(slots, i)) {
+            return false;
+        }
     }
-    ok
+    true
 }
 
 // Whether the counts, the generations and the free list agree with the slots. `limit` is the configured number of
 // slots.
+#[tactic(auto, using(crate::proofs::SoundLaws::fronts), unfolding(crate::specs::WellFormed::well_formed))]
 pub fn is_well_formed(a: Arena, limit: usize) -> bool
     ensures { result ≡ well_formed a limit }
 {
-    if counts_within(a, limit) {
-        let slots = a.slots;
-        let used = a.used;
-        let free = a.free;
-        let freed = a.freed;
-        let generations = generations_set(slots, used);
-        let count = filled_count(slots, used);
-        let below = entries_below(free, freed, used);
-        let once = each_stands_as_due(slots, used, free, freed);
-        return both(generations, both(a.live == count, both(below, once)));
+    if !counts_within(a, limit) {
+        return false;
     }
-    false
+    let used = &a.slots[..a.used];
+    let free = &a.free[..a.freed];
+    generations_set(used)
+        && a.live == filled_count(used)
+        && entries_below(free, a.used)
+        && each_stands_as_due(a.slots, a.used, free)
 }

@@ -1,17 +1,18 @@
 -- Where the damage tests accept both states, no check of a routed event and no read answers 42: every other check has
 -- another number.
+use Rattle.std.specs.Prelude.{Ok, Err}
+use Rattle.std.specs.Result.{result_and}
 use Prim.Native.Nat.{ℕ}
 use mathlib.Core.Path.{◌≡◌, refl, ap}
-use mathlib.Core.Bool.{Bool, true, false, not, ◌&&◌}
+use mathlib.Core.Bool.{Bool, true, false, not, ◌&&◌, ◌||◌}
 use lib.Dec.{eqb, ltb, leb}
 use Rattle.lists.proofs.ListLaws.{clash}
 use Rattle.handles.specs.Handles.{same_handle}
 use Rattle.handles.specs.declared.GenerationalHandle.{GenerationalHandle}
 use Rattle.maps.specs.Keys.{device_valid}
+use Rattle.maps.specs.declared.keys.InputDeviceId.{InputDeviceId}
 use Rattle.records.specs.declared.error.CompositionError.TheVariants as composition
-use Rattle.records.specs.declared.error.Outcome.{Outcome}
-use Rattle.records.specs.declared.error.Outcome.TheVariants as outcome
-use Rattle.records.specs.Errors.{number_of}
+use Rattle.records.specs.Errors.{number_of, refusal_if, Outcome}
 use Rattle.records.specs.Views.{view_at, view_refusal}
 use Rattle.composition_state.specs.declared.registry.CompositionRegistry.{CompositionRegistry}
 use Rattle.composition_state.specs.Damage.{is_sound}
@@ -19,8 +20,6 @@ use Rattle.composition_reads.specs.Reads.{view_read_refusal}
 use Rattle.composition_soundness.proofs.ClearLaws as registry
 use Rattle.input_events.specs.declared.error.PlatformInputError.{PlatformInputError}
 use Rattle.input_events.specs.declared.error.PlatformInputError.TheVariants as error
-use Rattle.input_events.specs.declared.error.RouterOutcome.{RouterOutcome}
-use Rattle.input_events.specs.declared.error.RouterOutcome.TheVariants.{Accepted, Refused}
 use Rattle.input_events.specs.declared.event.PlatformInputEvent.{PlatformInputEvent}
 use Rattle.input_events.specs.declared.event.PlatformInputPayload.{PlatformInputPayload}
 use Rattle.input_events.specs.declared.event.PlatformInputPayload.TheVariants as payload
@@ -28,17 +27,17 @@ use Rattle.input_events.specs.declared.presses.Effect.{Effect}
 use Rattle.input_events.specs.declared.presses.Effect.TheVariants.{Opens, Ends, Nothing}
 use Rattle.input_events.specs.Checks.{is_tilt_allowed, payload_refusal, header_refusal_in, event_refusal}
 use Rattle.input_events.specs.Presses.{effect_of}
-use Rattle.input_events.specs.RouterErrors.{router_error_number, router_number_of, then_router_refusal, router_refusal_if, from_composition}
-use Rattle.input_router.specs.declared.order.Order.{Order}
-use Rattle.input_router.specs.declared.order.Order.TheVariants as order
+use Rattle.input_events.specs.RouterErrors.{router_error_number, router_number_of, from_composition, RouterOutcome}
 use Rattle.input_router.specs.declared.router.PlatformInputRouter.{PlatformInputRouter}
 use Rattle.input_router.specs.Damage.{is_router_sound}
-use Rattle.input_router.specs.Order.{order_of}
+use Rattle.input_router.specs.Order.{last_of, is_old, has_place_with, known_devices, order_of}
 use Rattle.input_router.specs.Presses.{has_room}
-use Rattle.input_route.specs.Checks.{effect_refusal, refusal_of_order, route_refusal}
+use Rattle.input_route.specs.Checks.{effect_refusal, route_refusal}
 use Rattle.calls.specs.declared.call.ReadCall.{ReadCall}
 use Rattle.calls.specs.declared.call.ReadCall.TheVariants as read
-use Rattle.read_step.specs.Reads.{read_step}
+use Rattle.calls.specs.declared.shown.Shown.{Shown}
+use Rattle.calls.specs.declared.shown.Shown.TheVariants as shown
+use Rattle.read_step.specs.Reads.{shown_as, read_step, outcome_of}
 
 abbrev pub is42 : ℕ → Bool
 is42 n = eqb n 42
@@ -47,26 +46,26 @@ is42 n = eqb n 42
 pub record Clear (o : RouterOutcome) : Type 0 where
   pub not_42 : router_number_of o ≡ 42 → ⊥
 
-pub accepted : Clear Accepted
+pub accepted : Clear (Ok tt)
 accepted = record { not_42 = λ q. clash (ap is42 q) refl }
 
-refused : (e : PlatformInputError) → is42 (router_error_number e) ≡ false → Clear (Refused e)
+refused : (e : PlatformInputError) → is42 (router_error_number e) ≡ false → Clear (Err e)
 refused e h = record { not_42 = λ q. clash (ap is42 q) h }
 
-both_clear : (a b : RouterOutcome) → Clear a → Clear b → Clear (then_router_refusal a b)
-both_clear Accepted b p q = q
-both_clear (Refused e) b p q = p
+both_clear : (a b : RouterOutcome) → Clear a → Clear b → Clear (result_and a b)
+both_clear (Ok _) b p q = q
+both_clear (Err e) b p q = p
 
-then_clear : {a b : RouterOutcome} → Clear a → Clear b → Clear (then_router_refusal a b)
+then_clear : {a b : RouterOutcome} → Clear a → Clear b → Clear (result_and a b)
 then_clear {a} {b} p q = both_clear a b p q
 
-if_clear : (b : Bool) (e : PlatformInputError) → is42 (router_error_number e) ≡ false → Clear (router_refusal_if b e)
+if_clear : (b : Bool) (e : PlatformInputError) → is42 (router_error_number e) ≡ false → Clear (refusal_if b e)
 if_clear true e h = refused e h
 if_clear false e h = accepted
 
 pub from_clear : (o : Outcome) → (number_of o ≡ 42 → ⊥) → Clear (from_composition o)
-from_clear outcome.Accepted k = accepted
-from_clear (outcome.Refused e) k = record { not_42 = k }
+from_clear (Ok _) k = accepted
+from_clear (Err e) k = record { not_42 = k }
 
 -- the registry's own law of the same name, as the number
 number_clear : (o : Outcome) → registry.Clear o → number_of o ≡ 42 → ⊥
@@ -92,11 +91,9 @@ effect_clear t (Opens key) = if_clear (not (has_room t key)) error.Capacity refl
 effect_clear t (Ends key) = accepted
 effect_clear t Nothing = accepted
 
-order_clear : (o : Order) → Clear (refusal_of_order o)
-order_clear order.InOrder = accepted
-order_clear order.InvalidSequence = refused error.InvalidSequence refl
-order_clear order.InvalidTimestamp = refused error.InvalidTimestamp refl
-order_clear order.PortLimit = refused error.PortLimit refl
+order_clear : (t : PlatformInputRouter) (d : InputDeviceId) (n time : ℕ) → Clear (order_of t d n time)
+order_clear t d n time = then_clear (if_clear (eqb n 0 || is_old (last_of t d) n) error.InvalidSequence refl)
+    (then_clear (if_clear (ltb time t.last_timestamp_micros) error.InvalidTimestamp refl) (if_clear (not (has_place_with (last_of t d) (known_devices t))) error.PortLimit refl))
 
 event_clear : (r : CompositionRegistry) (e : PlatformInputEvent) → Clear (event_refusal r.views e)
 unfolding event_refusal header_refusal_in
@@ -114,26 +111,32 @@ pub route_clear : (r : CompositionRegistry) (t : PlatformInputRouter) (e : Platf
     → Clear (route_refusal r t e)
 unfolding route_refusal
 route_clear r t e s w = rw (s, w) (then_clear (event_clear r e) (then_clear (effect_clear t (effect_of e))
-    (order_clear (order_of t e.header.device e.header.sequence e.header.timestamp_micros))))
+    (order_clear t e.header.device e.header.sequence e.header.timestamp_micros)))
 
 -- ---- the reads
 module _ (r : CompositionRegistry) (t : PlatformInputRouter) (s : is_sound r ≡ true) (w : is_router_sound t ≡ true) where
   view_read_lem : (v : GenerationalHandle) → registry.Clear (view_read_refusal r v)
   view_read_lem v = registry.then_clear (registry.damage r s) (registry.view_at_lem r v)
 
-  read_answer : (call : ReadCall) → registry.Clear (read_step r t call).outcome
+  -- what a read shows does not alter whether it is accepted
+  shown_clear : {T : Type 0} (f : T → Shown) (x : T) (o : Outcome) → registry.Clear o → registry.Clear (outcome_of (shown_as f (result_and o (Ok x))))
+  shown_clear f x (Ok _) k = registry.accepted
+  shown_clear f x (Err e) k = k
+
+  read_answer : (call : ReadCall) → registry.Clear (outcome_of (read_step r t call))
   unfolding read_step
-  read_answer (read.ViewWindow v) = view_read_lem v
-  read_answer (read.ViewMetrics v) = view_read_lem v
-  read_answer (read.ViewInputState v) = view_read_lem v
-  read_answer (read.ViewPointerCaptures v) = view_read_lem v
-  read_answer (read.SurfaceDescriptor h) = registry.then_clear (registry.damage r s) (registry.panel_at_lem r h)
-  read_answer (read.ViewLayers v) = view_read_lem v
-  read_answer read.Traces = registry.damage r s
-  read_answer read.Counts = registry.damage r s
+  read_answer (read.ViewWindow v) = shown_clear shown.Window _ (view_read_refusal r v) (view_read_lem v)
+  read_answer (read.ViewMetrics v) = shown_clear shown.Metrics _ (view_read_refusal r v) (view_read_lem v)
+  read_answer (read.ViewInputState v) = shown_clear shown.InputState _ (view_read_refusal r v) (view_read_lem v)
+  read_answer (read.ViewPointerCaptures v) = shown_clear (λ captures. shown.Captures v) _ (view_read_refusal r v) (view_read_lem v)
+  read_answer (read.SurfaceDescriptor h) = shown_clear shown.Descriptor _ _ (registry.then_clear (registry.damage r s) (registry.panel_at_lem r h))
+  read_answer (read.ViewLayers v) = shown_clear (λ layers. shown.Layers v) _ (view_read_refusal r v) (view_read_lem v)
+  read_answer read.Traces = registry.with_value shown.Traces _ (registry.damage r s)
+  read_answer read.Counts = registry.with_value _ _ (registry.damage r s)
   read_answer read.ActiveBindingCount = rw w registry.accepted
-  read_answer (read.HitTestStack a) = registry.then_clear (registry.damage r s) (registry.then_clear (registry.view_at_lem r a.view) (registry.if_clear (ltb a.length 32) composition.PortLimit refl))
+  read_answer (read.HitTestStack a) =
+      registry.with_value _ _ (registry.then_clear (registry.damage r s) (registry.then_clear (registry.view_at_lem r a.view) (registry.if_clear (ltb a.length 32) composition.PortLimit refl)))
   read_answer (read.InversePoint a) = registry.accepted
 
-  pub read_clear : (call : ReadCall) → number_of (read_step r t call).outcome ≡ 42 → ⊥
-  read_clear call = number_clear (read_step r t call).outcome (read_answer call)
+  pub read_clear : (call : ReadCall) → number_of (outcome_of (read_step r t call)) ≡ 42 → ⊥
+  read_clear call = number_clear (outcome_of (read_step r t call)) (read_answer call)

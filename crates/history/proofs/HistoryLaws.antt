@@ -1,11 +1,11 @@
 -- The theorems, by induction over the list of calls: each call is right where the last one left the counter and the book, and a closed
 -- panel is released before any other call that is no read.
+use Rattle.std.specs.Prelude.{Option, None, Some, is_ok}
 use Prim.Native.Nat.{ℕ}
 use mathlib.Core.Path.{◌≡◌, refl, sym, ap, ◌∙◌, subst}
 use mathlib.Core.Logic.{◌⊎◌, ⊎_elim}
 use mathlib.Core.Bool.{Bool, true, false}
 use mathlib.Core.List.{List, [], ◌∷◌, ◌++◌, append_assoc}
-use mathlib.Core.Option.{Option, none, some}
 use native.Mathlib.Omega.{arith}
 use lib.Dec.{eqb}
 use Rattle.lists.proofs.ListLaws.{by_test, clash}
@@ -14,7 +14,7 @@ use Rattle.handles.specs.declared.GenerationalHandle.{GenerationalHandle}
 use Rattle.maps.specs.Bindings.{bindings}
 use Rattle.maps.specs.declared.bindings.Binding.{Binding}
 use Rattle.composition_soundness.proofs.ClaimLaws as soundness
-use Rattle.input_router.specs.Router.{is_started, presses_of}
+use Rattle.input_router.specs.Router.{presses_of}
 use Rattle.input_router.proofs.ClaimLaws as router
 use Rattle.release_lists.specs.Releases.{releases}
 use Rattle.calls.specs.declared.call.Call.{Call}
@@ -39,7 +39,7 @@ use Rattle.history.proofs.EventLaws.{route_goes}
 
 -- ---- one call
 -- with no closed panel to be released
-call_goes : (c : Counter) (b : Book) → Safe c → Joined none c b → (k : Call) (l : Lists) → (k ≡ Close Shutdown → ⊥) → Goes c b k l
+call_goes : (c : Counter) (b : Book) → Safe c → Joined None c b → (k : Call) (l : Lists) → (k ≡ Close Shutdown → ⊥) → Goes c b k l
 call_goes c b v j (Panel k) l n = panel_goes c b v.registry j l k
 call_goes c b v j (Input k) l n = input_goes c b v.registry j l k
 call_goes c b v j (ReleaseDevice x) l n = device_goes c b v.registry j l x
@@ -48,16 +48,16 @@ call_goes c b v j (Arbitrate x) l n = arbitrate_goes c b v.registry j l x
 call_goes c b v j (Close (CloseSurface h)) l n = close_goes c b v.registry j l h
 call_goes c b v j (Close Shutdown) l n = absurd (n refl)
 call_goes c b v j (Router (Route e)) l n = route_goes c b v j l e
-call_goes c b v j (Router (ReleaseSurface h)) l n = λ a. surface_goes none c b v.router j l h (λ g q. clash refl (sym q))
-call_goes c b v j (Router ReleaseAll) l n = λ a. all_goes none c b v.router j l
+call_goes c b v j (Router (ReleaseSurface h)) l n = λ a. surface_goes None c b v.router j l h (λ g q. clash refl (sym q))
+call_goes c b v j (Router ReleaseAll) l n = λ a. all_goes None c b v.router j l
 call_goes c b v j (Read k) l n = read_goes c b v.registry j l k
 
 -- the one or the other release of the panel that was just closed
-released_goes : (h : GenerationalHandle) (c : Counter) (b : Book) → Safe c → Joined (some h) c b → (k : Call) (l : Lists)
+released_goes : (h : GenerationalHandle) (c : Counter) (b : Book) → Safe c → Joined (Some h) c b → (k : Call) (l : Lists)
     → (k ≡ Router (ReleaseSurface h)) ⊎ (k ≡ Router ReleaseAll) → Right (entry c k l) b (stepped c k l).counter
 released_goes h c b v j k l one = ⊎_elim
-    (λ q. subst (λ (k : Call). Right (entry c k l) b (stepped c k l).counter) (sym q) (surface_goes (some h) c b v.router j l h (λ g t. t)))
-    (λ q. subst (λ (k : Call). Right (entry c k l) b (stepped c k l).counter) (sym q) (all_goes (some h) c b v.router j l))
+    (λ q. subst (λ (k : Call). Right (entry c k l) b (stepped c k l).counter) (sym q) (surface_goes (Some h) c b v.router j l h (λ g t. t)))
+    (λ q. subst (λ (k : Call). Right (entry c k l) b (stepped c k l).counter) (sym q) (all_goes (Some h) c b v.router j l))
     one
 
 -- ---- a read, also while a closed panel is still to be released: it lists nothing and is owed nothing, and counter and book stay
@@ -164,18 +164,18 @@ more x l c b now own rest = record { listed = listed; once = once; one_panel = o
 traced : (l : List Asked) (c : Counter) (b : Book) (p : Option GenerationalHandle) → Safe c → Joined p c b → ReleasedNext p (history l c) → Premises (history l c) → Traced b l c
 unfolding history
 traced [] c b p v j must k = no_calls c b p j
-traced (x ∷ l) c b none v j must k =
+traced (x ∷ l) c b None v j must k =
     let f = k.0 in
     let own = call_goes c b v j x.call x.lists f.no_shutdown_lem (record { not_21 = f.not_21; not_22 = f.not_22 }) in
     more x l c b j.own.presses (record { listed = own.listed; once = own.once; one_panel = own.one_panel })
     (traced l (call c x).counter _ (closed_in (entry_of x (call c x).answer)) (step_safe c v x.call x.lists).safe own.next f.released_next k.1)
-traced (x ∷ l) c b (some h) v j must k = ⊎_elim
+traced (x ∷ l) c b (Some h) v j must k = ⊎_elim
     (λ r.
     let idle = read_idle c x.call x.lists r.0 in
     more x l c b j.own.presses
     (record { listed = idle.unlisted ∙ sym (idle.unowed b); once = none_twice_lem is_same_release idle.unlisted; one_panel = none_twice_lem is_same_press_of (idle.unowed_presses b) })
-    (traced l (call c x).counter _ (some h) (step_safe c v x.call x.lists).safe
-    (subst (λ (d : Book). Joined (some h) (call c x).counter d) (sym (idle.unnoted b)) (subst (λ (d : Counter). Joined (some h) d b) (sym idle.counter) j))
+    (traced l (call c x).counter _ (Some h) (step_safe c v x.call x.lists).safe
+    (subst (λ (d : Book). Joined (Some h) (call c x).counter d) (sym (idle.unnoted b)) (subst (λ (d : Counter). Joined (Some h) d b) (sym idle.counter) j))
     r.1 k.1))
     (λ q.
     let own = released_goes h c b v j x.call x.lists q in
@@ -220,10 +220,10 @@ others_stay l c b t before x later q y h n m =
 safe_start : (s : Start) → Accepts s → Safe (fresh s)
 safe_start s a = record {
   registry = (soundness.claims).start s.session s.epoch s.limits s.revision s.generation a.registry;
-  router = (router.claims).start_sound s.bindings ∙ ap is_started a.router;
+  router = (router.claims).start_sound s.bindings ∙ ap is_ok a.router;
 }
 
-joined_start : (s : Start) → Accepts s → Joined none (fresh s) empty_book
+joined_start : (s : Start) → Accepts s → Joined None (fresh s) empty_book
 joined_start s a = record {
   shared = record { agrees = (registry.claims).start s.session s.epoch s.limits s.revision s.generation a.registry; captures_rise = refl };
   own = record { presses = entries_packed bindings []; hosted = refl };
@@ -232,7 +232,7 @@ joined_start s a = record {
 pub demand_3 : Demand3
 demand_3 = record {
   nothing_lost = λ s a l k.
-      let t = traced l (fresh s) empty_book none (safe_start s a) (joined_start s a) tt k in
+      let t = traced l (fresh s) empty_book None (safe_start s a) (joined_start s a) tt k in
       record { listed = t.listed; once = t.once; one_panel = t.one_panel; held = t.held; others_stay = others_stay l (fresh s) empty_book t };
 }
 

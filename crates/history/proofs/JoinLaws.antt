@@ -1,9 +1,9 @@
 -- How a counter stands to the book between two calls, in two halves: what all routers over a registry share, and what is one router's.
 -- And what one call has to show: its releases are those owed, none twice, and the book goes on standing so.
+use Rattle.std.specs.Prelude.{Option, None, Some, Ok, Err}
 use mathlib.Core.Path.{◌≡◌, refl, sym, ap, ◌∙◌, subst}
 use mathlib.Core.Bool.{Bool, true, false, ◌||◌}
 use mathlib.Core.List.{List, [], ◌∷◌}
-use mathlib.Core.Option.{Option, none, some}
 use lib.Dec.{eqb}
 use Rattle.lists.specs.Lists.{keep, all}
 use Rattle.lists.specs.Maps.{rising}
@@ -13,10 +13,8 @@ use Rattle.handles.specs.declared.GenerationalHandle.{GenerationalHandle}
 use Rattle.maps.specs.declared.bindings.Binding.{Binding}
 use Rattle.records.specs.declared.error.CompositionError.{CompositionError}
 use Rattle.records.specs.declared.error.CompositionError.TheVariants.{RevisionExhausted, GenerationExhausted}
-use Rattle.records.specs.declared.error.Outcome.{Outcome}
-use Rattle.records.specs.declared.error.Outcome.TheVariants.{Accepted, Refused}
 use Rattle.composition_state.specs.declared.registry.CompositionRegistry.{CompositionRegistry}
-use Rattle.records.specs.Errors.{error_number}
+use Rattle.records.specs.Errors.{error_number, Outcome}
 use Rattle.composition_soundness.proofs.ListLaws.{all_as}
 use Rattle.input_events.specs.declared.error.PlatformInputError.TheVariants.{Composition}
 use Rattle.input_events.specs.RouterErrors.{router_number_of, from_composition}
@@ -33,8 +31,8 @@ use Rattle.history.proofs.NumberLaws.{refused_number}
 
 -- the panel that the last call closed
 abbrev pub is_pending : Option GenerationalHandle → GenerationalHandle → Bool
-is_pending none h = false
-is_pending (some g) h = same_handle g h
+is_pending None h = false
+is_pending (Some g) h = same_handle g h
 
 -- a press's panel is live, or was just closed
 abbrev pub is_hosted : Option GenerationalHandle → CompositionRegistry → Binding → Bool
@@ -71,7 +69,7 @@ unfolding none_twice
 none_once same q = ap (none_twice same) q
 
 -- a refused call lists nothing, and the book stays
-pub refused : (e : Entry) (b : Book) (after : Counter) → eqb e.told.number 0 ≡ false → e.listed ≡ [] → Joined none after b → Right e b after
+pub refused : (e : Entry) (b : Book) (after : Counter) → eqb e.told.number 0 ≡ false → e.listed ≡ [] → Joined None after b → Right e b after
 unfolding owed owed_presses owed_captures then_captures note
 refused e b after n q j = record { listed = rw n q; once = none_once is_same_release q; one_panel = none_once is_same_press_of (rw n); next = rw n j }
 
@@ -102,22 +100,22 @@ or_true : (b : Bool) → (b || true) ≡ true
 or_true true = refl
 or_true false = refl
 
-pub live : (r : CompositionRegistry) (x : Binding) → is_hosted none r x ≡ true → is_open r x.surface ≡ true
+pub live : (r : CompositionRegistry) (x : Binding) → is_hosted None r x ≡ true → is_open r x.surface ≡ true
 live r x h = sym (or_false (is_open r x.surface)) ∙ h
 
 pub hosts : (p : Option GenerationalHandle) (r : CompositionRegistry) (x : Binding) → is_open r x.surface ≡ true → is_hosted p r x ≡ true
 hosts p r x h = rw h
 
-pub still_hosted : (r after : CompositionRegistry) (l : List Binding) → Keeps r after → all (is_hosted none r) l ≡ true → all (is_hosted none after) l ≡ true
-still_hosted r after l k h = all_as (is_hosted none r) (is_hosted none after) (λ x t. hosts none after x (k.stays x.surface (live r x t)).0) l h
+pub still_hosted : (r after : CompositionRegistry) (l : List Binding) → Keeps r after → all (is_hosted None r) l ≡ true → all (is_hosted None after) l ≡ true
+still_hosted r after l k h = all_as (is_hosted None r) (is_hosted None after) (λ x t. hosts None after x (k.stays x.surface (live r x t)).0) l h
 
-pub hosted_but : (g : GenerationalHandle) (r after : CompositionRegistry) (l : List Binding) → KeepsBut g r after → all (is_hosted none r) l ≡ true → all (is_hosted (some g) after) l ≡ true
-hosted_but g r after l k h = all_as (is_hosted none r) (is_hosted (some g) after) (λ x t. by_test (same_handle g x.surface)
+pub hosted_but : (g : GenerationalHandle) (r after : CompositionRegistry) (l : List Binding) → KeepsBut g r after → all (is_hosted None r) l ≡ true → all (is_hosted (Some g) after) l ≡ true
+hosted_but g r after l k h = all_as (is_hosted None r) (is_hosted (Some g) after) (λ x t. by_test (same_handle g x.surface)
     (λ s. rw s (or_true (is_open after x.surface)))
-    (λ s. hosts (some g) after x (k.stays x.surface s (live r x t)).0)) l h
+    (λ s. hosts (Some g) after x (k.stays x.surface s (live r x t)).0)) l h
 
 -- ---- a call on the registry that lists nothing
-module _ (c : Counter) (b : Book) (j : Joined none c b) (e : Entry) (a : Allowed e) (after : CompositionRegistry) (unlisted : e.listed ≡ []) where
+module _ (c : Counter) (b : Book) (j : Joined None c b) (e : Entry) (a : Allowed e) (after : CompositionRegistry) (unlisted : e.listed ≡ []) where
   abbrev next : Counter
   next = record { registry = after; router = c.router }
 
@@ -126,15 +124,15 @@ module _ (c : Counter) (b : Book) (j : Joined none c b) (e : Entry) (a : Allowed
   registry_refused x n stays =
       let same = stays (λ q. a.not_21 (n ∙ ap error_number q)) (λ q. a.not_22 (n ∙ ap error_number q)) in
       refused e b next (ap (λ k. eqb k 0) n ∙ refused_number (Composition x)) unlisted
-      (subst (λ (r : CompositionRegistry). Joined none (record { registry = r; router = c.router }) b) (sym same) j)
+      (subst (λ (r : CompositionRegistry). Joined None (record { registry = r; router = c.router }) b) (sym same) j)
 
   pub registry_right : (o : Outcome) → e.told.number ≡ router_number_of (from_composition o) → concern e.asked.call ≡ nothing
-      → ((x : CompositionError) → o ≡ Refused x → (x ≡ RevisionExhausted → ⊥) → (x ≡ GenerationExhausted → ⊥) → after ≡ c.registry)
-      → (o ≡ Accepted → Joined (closed_by e.asked.call) next (noted e.asked e.told b)) → Right e b next
-  registry_right Accepted n owes stays goes =
+      → ((x : CompositionError) → o ≡ Err x → (x ≡ RevisionExhausted → ⊥) → (x ≡ GenerationExhausted → ⊥) → after ≡ c.registry)
+      → (o ≡ Ok tt → Joined (closed_by e.asked.call) next (noted e.asked e.told b)) → Right e b next
+  registry_right (Ok _) n owes stays goes =
       accepted e b next (ap (λ k. eqb k 0) n) (nothing_owed e b (concern e.asked.call) owes unlisted) (none_once is_same_release unlisted)
       (nothing_twice is_same_press_of b (concern e.asked.call) owes) (goes refl)
-  registry_right (Refused x) n owes stays goes = registry_refused x n (stays x refl)
+  registry_right (Err x) n owes stays goes = registry_refused x n (stays x refl)
 
 -- ---- other presses
 -- the registry says nothing of presses

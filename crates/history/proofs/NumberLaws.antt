@@ -1,18 +1,16 @@
 -- A refusal's number is not 0, by the cases of the refusals; and what each passed check of the router says.
+use Rattle.std.specs.Result.{result_and}
+use Rattle.std.specs.Prelude.{is_ok, Ok, Err}
 use mathlib.Core.Path.{◌≡◌, refl, ap}
 use mathlib.Core.Bool.{Bool, true, false}
 use lib.Dec.{eqb}
 use Rattle.lists.proofs.ListLaws.{clash}
 use Rattle.records.specs.declared.error.CompositionError.{CompositionError}
 use Rattle.records.specs.declared.error.CompositionError.TheVariants as composition
-use Rattle.records.specs.declared.error.Outcome.{Outcome}
-use Rattle.records.specs.declared.error.Outcome.TheVariants as outcome
-use Rattle.records.specs.Errors.{error_number}
+use Rattle.records.specs.Errors.{error_number, refusal_if, Outcome}
 use Rattle.input_events.specs.declared.error.PlatformInputError.{PlatformInputError}
 use Rattle.input_events.specs.declared.error.PlatformInputError.TheVariants as error
-use Rattle.input_events.specs.declared.error.RouterOutcome.{RouterOutcome}
-use Rattle.input_events.specs.declared.error.RouterOutcome.TheVariants.{Accepted, Refused}
-use Rattle.input_events.specs.RouterErrors.{router_error_number, is_router_accepted, then_router_refusal, router_refusal_if, from_composition}
+use Rattle.input_events.specs.RouterErrors.{router_error_number, from_composition, RouterOutcome}
 
 registry_number : (e : CompositionError) → eqb (error_number e) 0 ≡ false
 registry_number composition.InvalidConfig = refl
@@ -56,21 +54,21 @@ refused_number error.Damaged = refl
 refused_number (error.Composition e) = registry_number e
 
 -- ---- the router's checks go in order
-refused≢accepted {ℓ} : {P : Type ℓ} {e : PlatformInputError} → Refused e ≡ Accepted → P
-refused≢accepted q = clash (ap is_router_accepted q) refl
+refused≢accepted {ℓ} : {P : Type ℓ} {e : PlatformInputError} → ◌≡◌ {A = RouterOutcome} (Err e) (Ok tt) → P
+refused≢accepted q = clash (ap (λ (o : RouterOutcome). is_ok o) q) refl
 
-pub then_first : (a b : RouterOutcome) → then_router_refusal a b ≡ Accepted → a ≡ Accepted
-then_first Accepted b h = refl
-then_first (Refused e) b h = h
+pub then_first : (a b : RouterOutcome) → result_and a b ≡ Ok tt → a ≡ Ok tt
+then_first (Ok _) b h = refl
+then_first (Err e) b h = h
 
-pub then_last : (a b : RouterOutcome) → then_router_refusal a b ≡ Accepted → b ≡ Accepted
-then_last Accepted b h = h
-then_last (Refused e) b h = refused≢accepted h
+pub then_last : (a b : RouterOutcome) → result_and a b ≡ Ok tt → b ≡ Ok tt
+then_last (Ok _) b h = h
+then_last (Err e) b h = refused≢accepted h
 
-pub if_accepted : (t : Bool) (e : PlatformInputError) → router_refusal_if t e ≡ Accepted → t ≡ false
+pub if_accepted : (t : Bool) (e : PlatformInputError) → refusal_if t e ≡ Ok tt → t ≡ false
 if_accepted true e h = refused≢accepted h
 if_accepted false e h = refl
 
-pub from_accepted : (o : Outcome) → from_composition o ≡ Accepted → o ≡ outcome.Accepted
-from_accepted outcome.Accepted h = refl
-from_accepted (outcome.Refused e) h = refused≢accepted h
+pub from_accepted : (o : Outcome) → from_composition o ≡ Ok tt → o ≡ Ok tt
+from_accepted (Ok _) h = refl
+from_accepted (Err e) h = refused≢accepted h

@@ -1,19 +1,21 @@
 -- Every call on the registry is right: it lists nothing, a refusal changes nothing, and the book follows an accepted call as the registry's theorem says.
+use Rattle.std.specs.Prelude.{Option, None, Some, Result, Ok, Err}
+use Rattle.std.specs.Result.{result_and}
 use mathlib.Core.Path.{◌≡◌, refl, sym, ◌∙◌}
 use mathlib.Core.Bool.{Bool, true, not}
 use mathlib.Core.List.{[]}
-use mathlib.Core.Option.{Option, none, some}
 use Rattle.lists.specs.Maps.{rising}
 use Rattle.lists.proofs.RisingLaws.{rising_keep, rising_insert}
 use Rattle.lists.proofs.TableLaws.{entries_packed}
 use Rattle.handles.specs.declared.GenerationalHandle.{GenerationalHandle}
-use Rattle.handles.specs.declared.OptionalHandle.{OptionalHandle}
-use Rattle.handles.specs.declared.OptionalHandle.TheVariants as handle
 use Rattle.maps.specs.declared.keys.CompositionPointerId.{CompositionPointerId}
-use Rattle.records.specs.declared.error.Outcome.TheVariants.{Accepted}
 use Rattle.composition_state.specs.declared.registry.CompositionRegistry.{CompositionRegistry}
 use Rattle.composition_input.specs.Captures.{primary, release_device_pointer_captures}
 use Rattle.composition_input.proofs.ClaimLaws as inputs
+use Rattle.records.specs.declared.error.CompositionError.{CompositionError}
+use Rattle.records.specs.Errors.{Outcome}
+use Rattle.composition_arbitration.specs.declared.arbitrate.ArbitrationResult.{ArbitrationResult}
+use Rattle.composition_state.specs.Registry.{outcome_of}
 use Rattle.composition_arbitration.specs.Arbitration.{arbitrated}
 use Rattle.composition_arbitration.proofs.CallClaimLaws as arbitration
 use Rattle.composition_close.specs.Close.{close_surface}
@@ -35,7 +37,7 @@ use Rattle.calls.specs.declared.call.ShortcutCall.{ShortcutCall}
 use Rattle.book.specs.Book.{Asked, Held, Book, held_place, place_before, home_of, is_held_by_device, is_held_on_panel, with_capture_in, with_capture, without_captures}
 use Rattle.book.specs.Notes.{change, changed, noted_attach, noted_panel, noted_input, noted_close, registered, noted}
 use Rattle.book.specs.Owed.{concern, without_concerned}
-use Rattle.read_step.specs.Reads.{read_step}
+use Rattle.read_step.specs.Reads.{read_step, outcome_of as read_outcome}
 use Rattle.registry_step.specs.Steps.{panel_step, input_step, shortcut_step}
 use Rattle.registry_step.proofs.StepLaws.{panel_settles, input_settles, shortcut_settles}
 use Rattle.registry_book.specs.Agreement.{Agrees, Follows}
@@ -51,7 +53,7 @@ use Rattle.history.proofs.JoinLaws.{Joined, Right, Allowed, still_hosted, hosted
 
 -- ---- the book follows an accepted call
 module _ (r : CompositionRegistry) (u : Undamaged r) (b : Book) (a : Agrees r b) where
-  input_follows : (call : InputCall) → (input_step r call).outcome ≡ Accepted → Follows r (input_step r call).registry (noted_input call b)
+  input_follows : (call : InputCall) → (input_step r call).outcome ≡ Ok tt → Follows r (input_step r call).registry (noted_input call b)
   unfolding input_step noted_input
   input_follows (input.SetFocus x) q = (registry.claims).focus r b x.view x.surface x.revision u a q
   input_follows (input.CapturePointer x) q = rw (sym (capture_is primary x.handle b)) ((registry.claims).capture r b primary x.handle x.revision u a q)
@@ -76,18 +78,18 @@ module _ (b : Book) (rise : rising held_place place_before b.captures ≡ true) 
   drop_quiet p = record { presses = refl; captures_rise = rising_keep map_place places (λ x. not (p x)) b.captures rise }
 
   in_quiet : (o : Option GenerationalHandle) (p : CompositionPointerId) (h : GenerationalHandle) → Quiet b (with_capture_in o p h b)
-  in_quiet none p h = same_quiet
-  in_quiet (some view) p h = record { presses = refl; captures_rise = rising_insert map_place places _ b.captures rise }
+  in_quiet None p h = same_quiet
+  in_quiet (Some view) p h = record { presses = refl; captures_rise = rising_insert map_place places _ b.captures rise }
 
   capture_quiet : (p : CompositionPointerId) (h : GenerationalHandle) → Quiet b (with_capture p h b)
   unfolding with_capture
   capture_quiet p h = in_quiet (home_of h b.homes) p h
 
-  attach_quiet : (made : OptionalHandle) (view : GenerationalHandle) → Quiet b (noted_attach made view b)
-  attach_quiet handle.None view = same_quiet
-  attach_quiet (handle.Some h) view = record { presses = refl; captures_rise = rise }
+  attach_quiet : (made : Option GenerationalHandle) (view : GenerationalHandle) → Quiet b (noted_attach made view b)
+  attach_quiet None view = same_quiet
+  attach_quiet (Some h) view = record { presses = refl; captures_rise = rise }
 
-  panel_quiet : (call : PanelCall) (made : OptionalHandle) → Quiet b (noted_panel call made b)
+  panel_quiet : (call : PanelCall) (made : Option GenerationalHandle) → Quiet b (noted_panel call made b)
   unfolding noted_panel
   panel_quiet panel.CreateWindow made = same_quiet
   panel_quiet (panel.CloseWindow w) made = same_quiet
@@ -109,7 +111,7 @@ module _ (b : Book) (rise : rising held_place place_before b.captures ≡ true) 
   input_quiet (input.EndIme x) = same_quiet
   input_quiet (input.SuspendViewInput x) = drop_quiet _
 
-pub follow : (c : Counter) (b b' : Book) (after : CompositionRegistry) → Joined none c b → Follows c.registry after b' → Quiet b b' → Joined none (record { registry = after; router = c.router }) b'
+pub follow : (c : Counter) (b b' : Book) (after : CompositionRegistry) → Joined None c b → Follows c.registry after b' → Quiet b b' → Joined None (record { registry = after; router = c.router }) b'
 follow c b b' after j f q = record {
   shared = record { agrees = f.agrees; captures_rise = q.captures_rise };
   own = record {
@@ -117,6 +119,11 @@ follow c b b' after j f q = record {
     hosted = still_hosted c.registry after b'.presses f.keeps (rw q.presses j.own.hosted);
   };
 }
+
+-- a refusal is that of the answer with its value
+refused_whole : {T : Type 0} (o : Result T CompositionError) (e : CompositionError) → ◌≡◌ {A = Outcome} (result_and o (Ok tt)) (Err e) → o ≡ Err e
+refused_whole (Ok _) e q = cc
+refused_whole (Err f) e q = cc
 
 -- ---- each kind of call
 abbrev pub ask : Call → Lists → Asked
@@ -129,7 +136,7 @@ entry c call l = entry_of (ask call l) (stepped c call l).answer
 abbrev pub Goes : Counter → Book → Call → Lists → Type 0
 Goes c b call l = Allowed (entry c call l) → Right (entry c call l) b (stepped c call l).counter
 
-module _ (c : Counter) (b : Book) (u : Undamaged c.registry) (j : Joined none c b) (l : Lists) where
+module _ (c : Counter) (b : Book) (u : Undamaged c.registry) (j : Joined None c b) (l : Lists) where
   pub panel_goes : (call : PanelCall) → Goes c b (Panel call) l
   unfolding stepped concern change changed registered without_concerned noted
   panel_goes call a =
@@ -151,8 +158,8 @@ module _ (c : Counter) (b : Book) (u : Undamaged c.registry) (j : Joined none c 
   device_goes d a =
       let x = release_device_pointer_captures c.registry d.device d.device_generation in
       let p : Held → Bool = is_held_by_device (record { value = d.device; generation = d.device_generation }) in
-      registry_right c b j (entry c (ReleaseDevice d) l) a x.registry (entries_packed releases []) x.outcome refl refl
-      (λ e q n m. ((inputs.claims).release_device_pointer_captures_lem c.registry d.device d.device_generation).refused e q n)
+      registry_right c b j (entry c (ReleaseDevice d) l) a x.registry (entries_packed releases []) (outcome_of x) refl refl
+      (λ e q n m. ((inputs.claims).release_device_pointer_captures_lem c.registry d.device d.device_generation).refused e (refused_whole x.outcome e q) n)
       (λ q. follow c b (without_captures p b) x.registry j ((registry.claims).device c.registry b d.device d.device_generation u j.shared.agrees q) (drop_quiet b j.shared.captures_rise p))
 
   pub shortcut_goes : (call : ShortcutCall) → Goes c b (Shortcut call) l
@@ -167,8 +174,8 @@ module _ (c : Counter) (b : Book) (u : Undamaged c.registry) (j : Joined none c 
   unfolding stepped concern change changed registered without_concerned noted arbitration_alone
   arbitrate_goes d a =
       let x = arbitrated c.registry d.view d.event l.hits in
-      registry_right c b j (entry c (Arbitrate d) l) a x.registry (entries_packed releases []) x.outcome refl refl
-      (λ e q n m. arbitration.refused c.registry d.view d.event l.hits e q)
+      registry_right c b j (entry c (Arbitrate d) l) a x.registry (entries_packed releases []) (outcome_of x) refl refl
+      (λ e q n m. arbitration.refused c.registry d.view d.event l.hits e (refused_whole x.outcome e q))
       (λ q. follow c b b x.registry j ((registry.claims).arbitrate c.registry b d.view d.event l.hits u j.shared.agrees q) (same_quiet b j.shared.captures_rise))
 
   -- the panel that closes may still have presses in the router
@@ -176,7 +183,7 @@ module _ (c : Counter) (b : Book) (u : Undamaged c.registry) (j : Joined none c 
   unfolding stepped close_step concern change changed registered without_concerned noted noted_close
   close_goes h a =
       let x = close_surface c.registry h in
-      registry_right c b j (entry c (Close (CloseSurface h)) l) a x.registry (entries_packed releases []) x.outcome refl refl
+      registry_right c b j (entry c (Close (CloseSurface h)) l) a x.registry (entries_packed releases []) (outcome_of x) refl refl
       ((closes.claims).close c.registry h).refused
       (λ q.
       let f = (registry.claims).close c.registry b h u j.shared.agrees q in
@@ -193,4 +200,4 @@ module _ (c : Counter) (b : Book) (u : Undamaged c.registry) (j : Joined none c 
   pub read_goes : (call : ReadCall) → Goes c b (Read call) l
   unfolding stepped concern change changed registered without_concerned noted
   read_goes call a =
-      registry_right c b j (entry c (Read call) l) a c.registry (entries_packed releases []) (read_step c.registry c.router call).outcome refl refl (λ e q n m. refl) (λ q. j)
+      registry_right c b j (entry c (Read call) l) a c.registry (entries_packed releases []) (read_outcome (read_step c.registry c.router call)) refl refl (λ e q n m. refl) (λ q. j)

@@ -1,8 +1,8 @@
 -- The router's releases of a panel and of all are right, also where the panel was just closed: they list the book's presses in its order, and leave the others.
+use Rattle.std.specs.Prelude.{Option, None}
 use mathlib.Core.Path.{◌≡◌, refl, sym, ap, ◌∙◌, subst}
 use mathlib.Core.Bool.{true, not}
 use mathlib.Core.List.{[], append-nil}
-use mathlib.Core.Option.{Option, none}
 use borrow.Author.Tests.{not-true}
 use Rattle.lists.specs.Lists.{keep, all}
 use Rattle.lists.specs.Maps.{rising}
@@ -51,10 +51,10 @@ module _ (p : Option GenerationalHandle) (c : Counter) (b : Book) (s : is_router
 
   -- without the presses of the panel that was closed, if one was, every press is on a live panel
   hosted_without : (h : GenerationalHandle) → ((g : GenerationalHandle) → is_pending p g ≡ true → same_handle h g ≡ true)
-      → all (is_hosted none c.registry) (keep (λ x. not (is_on_panel h x)) b.presses) ≡ true
-  hosted_without h only = keep_so (is_hosted p c.registry) (λ x. not (is_on_panel h x)) (is_hosted none c.registry) stays b.presses j.own.hosted
+      → all (is_hosted None c.registry) (keep (λ x. not (is_on_panel h x)) b.presses) ≡ true
+  hosted_without h only = keep_so (is_hosted p c.registry) (λ x. not (is_on_panel h x)) (is_hosted None c.registry) stays b.presses j.own.hosted
     where
-      stays : (x : Binding) → is_hosted p c.registry x ≡ true → not (is_on_panel h x) ≡ true → is_hosted none c.registry x ≡ true
+      stays : (x : Binding) → is_hosted p c.registry x ≡ true → not (is_on_panel h x) ≡ true → is_hosted None c.registry x ≡ true
       stays x t n = by_test (is_pending p x.surface)
           (λ q. clash (only x.surface q) (not-true (is_on_panel h x) n))
           (λ q. rw q at t)

@@ -1,15 +1,13 @@
 -- No other press changes in the book: a press that a call neither opens, moves, ends nor lists is kept by every test that takes others out.
+use Rattle.std.specs.Prelude.{Option, None, Some}
 use mathlib.Core.Path.{◌≡◌, refl, sym, ap, ◌∙◌}
 use mathlib.Core.Bool.{Bool, true, false, not}
 use mathlib.Core.List.{List, [], ◌∷◌, ◌++◌}
-use mathlib.Core.Option.{Option, none, some}
 use lib.Dec.{eqb}
 use Rattle.lists.specs.Lists.{keep, all}
 use Rattle.lists.proofs.ListLaws.{by_test, clash, and_left, and_right}
 use Rattle.handles.specs.Handles.{same_handle}
 use Rattle.handles.specs.declared.GenerationalHandle.{GenerationalHandle}
-use Rattle.handles.specs.declared.OptionalHandle.{OptionalHandle}
-use Rattle.handles.specs.declared.OptionalHandle.TheVariants as handle
 use Rattle.maps.specs.declared.bindings.Binding.{Binding}
 use Rattle.maps.specs.declared.keys.CompositionPointerId.{CompositionPointerId}
 use Rattle.calls.specs.declared.call.Call.{Call}
@@ -106,14 +104,14 @@ module _ (y : Binding) where
 -- ---- calls on the registry leave the presses
 module _ (b : Book) where
   capture_presses : (o : Option GenerationalHandle) (p : CompositionPointerId) (h : GenerationalHandle) → (with_capture_in o p h b).presses ≡ b.presses
-  capture_presses none p h = refl
-  capture_presses (some v) p h = refl
+  capture_presses None p h = refl
+  capture_presses (Some v) p h = refl
 
-  attach_presses : (made : OptionalHandle) (v : GenerationalHandle) → (noted_attach made v b).presses ≡ b.presses
-  attach_presses handle.None v = refl
-  attach_presses (handle.Some h) v = refl
+  attach_presses : (made : Option GenerationalHandle) (v : GenerationalHandle) → (noted_attach made v b).presses ≡ b.presses
+  attach_presses None v = refl
+  attach_presses (Some h) v = refl
 
-  panel_presses : (call : PanelCall) (made : OptionalHandle) → (noted_panel call made b).presses ≡ b.presses
+  panel_presses : (call : PanelCall) (made : Option GenerationalHandle) → (noted_panel call made b).presses ≡ b.presses
   unfolding noted_panel
   panel_presses panel.CreateWindow made = refl
   panel_presses (panel.CloseWindow w) made = refl

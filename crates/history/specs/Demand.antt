@@ -1,12 +1,9 @@
 -- Demand 3: nothing lost. One statement about every list of calls from a fresh start.
-use Rattle.std.specs.Prelude.{◌≡◌, ◌⊎◌, Bool, true, false, cond, List, [], ◌∷◌, ◌++◌}
-use Rattle.std.proofs.Math.Option.{Option, none, some}
+use Rattle.std.specs.Prelude.{◌≡◌, ◌⊎◌, Bool, true, false, cond, List, [], ◌∷◌, ◌++◌, Option, None, Some, Ok, Err}
 use Rattle.handles.specs.declared.GenerationalHandle.{GenerationalHandle}
 use Rattle.maps.specs.declared.bindings.Binding.{Binding}
-use Rattle.records.specs.declared.error.Outcome.TheVariants as composition
 use Rattle.composition_state.specs.Damage.{is_sound}
 use Rattle.composition_state.specs.Start.{started}
-use Rattle.input_router.specs.declared.router.StartOutcome.TheVariants as router
 use Rattle.input_router.specs.Damage.{is_router_sound}
 use Rattle.input_router.specs.Router.{start_outcome, presses_of}
 use Rattle.calls.specs.declared.call.Call.{Call}
@@ -21,25 +18,25 @@ use Rattle.history.specs.Histories.{Start, fresh, call, told_of, releases_in, En
 -- an accepted start: any limits, first revision and first generation that RULES.md, Start, does not refuse
 pub record Accepts (s : Start) : Type 0 where
   pub registry : (started s.session s.epoch s.limits s.revision s.generation).outcome
-      ≡ composition.Accepted
-  pub router : start_outcome s.bindings ≡ router.Accepted
+      ≡ Ok tt
+  pub router : start_outcome s.bindings ≡ Ok tt
 
 -- ---- the premises, and no others: no shutdown, no answer 21 or 22, each closed panel released in the router by the
 -- very next call the panel that a call closes
 abbrev pub closed_by : Call → Option GenerationalHandle
-closed_by (Close (CloseSurface h)) = some h
-closed_by (Close Shutdown) = none
-closed_by (Panel call) = none
-closed_by (Input call) = none
-closed_by (ReleaseDevice a) = none
-closed_by (Shortcut call) = none
-closed_by (Arbitrate a) = none
-closed_by (Router call) = none
-closed_by (Read call) = none
+closed_by (Close (CloseSurface h)) = Some h
+closed_by (Close Shutdown) = None
+closed_by (Panel call) = None
+closed_by (Input call) = None
+closed_by (ReleaseDevice a) = None
+closed_by (Shortcut call) = None
+closed_by (Arbitrate a) = None
+closed_by (Router call) = None
+closed_by (Read call) = None
 
 -- the panel that an accepted call closed
 abbrev pub closed_in : Entry → Option GenerationalHandle
-closed_in e = cond (is_refused e.told) none (closed_by e.asked.call)
+closed_in e = cond (is_refused e.told) None (closed_by e.asked.call)
 
 -- RULES.md, Book: "Hit tests alter neither state and stand outside", as do all reads
 abbrev pub is_read : Call → Bool
@@ -54,10 +51,10 @@ is_read (Read call) = true
 
 -- the next call but for reads, if there is one, releases that panel in the router, alone or with all
 abbrev pub ReleasedNext : Option GenerationalHandle → List Entry → Type 0
-ReleasedNext none es = Unit {0}
-ReleasedNext (some h) [] = Unit {0}
-ReleasedNext (some h) (e ∷ es) =
-    ((is_read e.asked.call ≡ true) × ReleasedNext (some h) es)
+ReleasedNext None es = Unit {0}
+ReleasedNext (Some h) [] = Unit {0}
+ReleasedNext (Some h) (e ∷ es) =
+    ((is_read e.asked.call ≡ true) × ReleasedNext (Some h) es)
     ⊎ ((e.asked.call ≡ Router (ReleaseSurface h)) ⊎ (e.asked.call ≡ Router ReleaseAll))
 
 -- what is asked of a call, with those after it

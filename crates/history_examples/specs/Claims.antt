@@ -1,6 +1,5 @@
 -- Demand 3's premises can be met, and none of them can be left out.
-use Rattle.std.specs.Prelude.{ℕ, ◌≡◌, Bool, true, false, not, cond, ◌&&◌, List, [], ◌∷◌, map, eqb}
-use Rattle.std.proofs.Math.Option.{Option, none, some}
+use Rattle.std.specs.Prelude.{ℕ, ◌≡◌, Bool, true, false, not, cond, ◌&&◌, List, [], ◌∷◌, map, eqb, Option, None, Some}
 use Rattle.lists.specs.Lists.{all}
 use Rattle.handles.specs.declared.GenerationalHandle.{GenerationalHandle}
 use Rattle.maps.specs.declared.bindings.Binding.{Binding}
@@ -42,10 +41,10 @@ is_release_of h (Router ReleaseAll) = true
 is_release_of h (Read call) = false
 
 unfoldable pub is_released_next : Option GenerationalHandle → List Entry → Bool
-is_released_next none es = true
-is_released_next (some h) [] = true
-is_released_next (some h) (e
-    ∷ es) = cond (is_read e.asked.call) (is_released_next (some h) es) (is_release_of h e.asked.call)
+is_released_next None es = true
+is_released_next (Some h) [] = true
+is_released_next (Some h) (e
+    ∷ es) = cond (is_read e.asked.call) (is_released_next (Some h) es) (is_release_of h e.asked.call)
 
 unfoldable pub are_released : List Entry → Bool
 are_released [] = true

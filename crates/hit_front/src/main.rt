@@ -11,6 +11,7 @@ use answer_text::put::{put_byte, put_u64};
 use composition_hits::stack::hit_test_stack;
 use composition_state::registry::CompositionRegistry;
 use geometry::transform::Point;
+use records::error::Refusal;
 use std::io;
 
 // The numbers on a line of their own.
@@ -23,17 +24,23 @@ fn put_numbers(out: &mut [u8], at: usize, numbers: &[u64]) -> usize {
     put_byte(out, next, b'\n')
 }
 
+// The refusal's number on a line of its own, and then the front part.
+fn put_answer(out: &mut [u8], at: usize, refusal: u64, front: &[u64]) -> usize {
+    let named = put_u64(out, at, refusal);
+    let line = put_byte(out, named, b'\n');
+    put_numbers(out, line, front)
+}
+
 // A hit test in the first view, at the point 0, 0.
 fn put_test(out: &mut [u8], at: usize, registry: CompositionRegistry, buffer: &mut [u64]) -> usize {
     let point = Point {
         x_milli: 0,
         y_milli: 0,
     };
-    let mut refusal: u64 = 0;
-    let front = hit_test_stack(registry, first(), point, buffer, &mut refusal);
-    let named = put_u64(out, at, refusal);
-    let line = put_byte(out, named, b'\n');
-    let listed = put_numbers(out, line, front);
+    let listed = match hit_test_stack(registry, first(), point, buffer) {
+        Ok(front) => put_answer(out, at, 0, front),
+        Err(error) => put_answer(out, at, error.number(), &[]),
+    };
     put_numbers(out, listed, buffer)
 }
 

@@ -3,7 +3,7 @@ use Rattle.std.specs.Prelude.{ℕ, ◌<◌, ◌≡◌, true, length, get_or}
 use Rattle.std.specs.Int.{w16}
 use Rattle.std.proofs.Common.{SFits}
 use Rattle.lists.specs.Below.{all_below}
-use Rattle.composition_shortcuts.specs.declared.register.Registrations.{Registrations}
+use Rattle.composition_shortcuts.specs.Registrations.{Registrations}
 use Rattle.composition_shortcuts.specs.Register.{registration_of as of_mask}
 use Rattle.host_message.specs.declared.registrations.RegistrationsNumbers.{RegistrationsNumbers}
 use Rattle.host_message.specs.Registrations.{registrations_of, registrations_numbers, entry_form}

@@ -9,7 +9,7 @@ use Rattle.calls.specs.declared.call.ShortcutCall.TheVariants.{RegisterSet, Regi
 use Rattle.call_numbers.specs.Calls.{call_at}
 use Rattle.call_forms.specs.Forms.{is_form}
 use Rattle.host_message.specs.declared.message.Message.{Message}
-use Rattle.host_message.specs.Hits.{hit_form}
+use Rattle.host_message.specs.Hits.{hits_of, hit_form}
 use Rattle.host_message.specs.Registrations.{registrations_of, entry_form}
 
 -- an arbitration of a stack event has hits
@@ -41,7 +41,7 @@ abbrev pub is_allowed : Bool → ℕ → Bool
 is_allowed takes n = cond takes true (eqb n 0)
 
 abbrev pub lists_of : Message → Lists
-lists_of m = record { hits = m.hits; registrations = registrations_of m.registrations }
+lists_of m = record { hits = hits_of m.hits; registrations = registrations_of m.registrations }
 
 unfoldable pub is_message : Message → Bool
 is_message m =

@@ -1,6 +1,6 @@
 -- Registrations as numbers: class mask, scope by its place in the declared order, priority as its two's complement.
 use Rattle.std.specs.Prelude.{ℕ, Bool, cond, ◌&&◌, map, eqb, ltb, get_or}
-use Rattle.composition_shortcuts.specs.declared.register.Registrations.{Registrations}
+use Rattle.composition_shortcuts.specs.Registrations.{Registrations}
 use Rattle.call_fields.specs.declared.groups.RegistrationNumbers.{RegistrationNumbers}
 use Rattle.call_fields.specs.Groups.{registration_of, registration_numbers}
 use Rattle.host_message.specs.declared.registrations.RegistrationsNumbers.{RegistrationsNumbers}

@@ -5,19 +5,18 @@
 ghost use Rattle.std.specs.Prelude.{◌≡◌};
 ghost use Rattle.host_message.specs.Messages.{takes_hits, takes_registrations, is_allowed, is_message};
 
-use crate::hits::are_hits_form;
+use crate::hits::{HitsNumbers, are_hits_form};
 use crate::registrations::{RegistrationsNumbers, are_registrations_form};
 use call_forms::call::is_form;
 use call_numbers::call::call_at;
 use calls::call::{Call, ShortcutCall};
 use composition_arbitration::arbitrate::is_stack;
-use records::trace::Hits;
 
 #[repr(C)]
 #[derive(Clone, Copy)]
 pub struct Message {
     pub call: [u64; 32],
-    pub hits: Hits,
+    pub hits: HitsNumbers,
     pub registrations: RegistrationsNumbers,
 }
 

@@ -7,6 +7,7 @@ ghost use Rattle.host_message.specs.Registrations.{registrations_of, is_entry_fo
 use call_fields::groups::{RegistrationNumbers, registration_of};
 use composition_shortcuts::register::Registrations;
 
+// A struct of its own, since the structs that C hands in have no type parameters, and here the count stands first.
 #[repr(C)]
 #[derive(Clone, Copy)]
 pub struct RegistrationsNumbers {

@@ -4,5 +4,4 @@
 #![tactic(auto)]
 
 pub mod router;
-pub mod router_parts;
 pub mod step;

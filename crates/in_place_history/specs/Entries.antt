@@ -1,8 +1,8 @@
 -- The in-place entries as a list of calls on one counter: each holds to its contract, and is an entry of the history.
-use Rattle.std.specs.Prelude.{◌≡◌, List, [], ◌∷◌}
+use Rattle.std.specs.Prelude.{◌≡◌, List, [], ◌∷◌, None, Ok}
+use Rattle.std.specs.Result.{result_and, result_unwrap_or}
 use Rattle.lists.specs.Tables.{entries_of, packed}
 use Rattle.handles.specs.declared.GenerationalHandle.{GenerationalHandle}
-use Rattle.handles.specs.declared.OptionalHandle.TheVariants as handle
 use Rattle.records.specs.Traces.{deliveries, hits}
 use Rattle.composition_shortcuts.specs.Register.{registrations}
 use Rattle.input_events.specs.declared.event.PlatformInputEvent.{PlatformInputEvent}
@@ -16,9 +16,9 @@ use Rattle.counter.specs.declared.answer.Answer.{Answer}
 use Rattle.counter.specs.declared.step.Counter.{Counter}
 use Rattle.book.specs.Book.{Asked}
 use Rattle.history.specs.Histories.{Entry, entry_of}
-use Rattle.in_place.specs.declared.router_parts.ReleaseAnswer.{ReleaseAnswer}
-use Rattle.in_place.specs.declared.router_parts.RouteAnswer.{RouteAnswer}
-use Rattle.in_place.specs.EntryContracts.{StepInPlace, RouteInPlace, ReleaseSurfaceInPlace, ReleaseAllInPlace}
+use Rattle.input_releases.specs.declared.answer.PlatformInputRoutingReport.{PlatformInputRoutingReport}
+use Rattle.input_releases.specs.Answers.{no_report}
+use Rattle.in_place.specs.EntryContracts.{RouteAnswer, ReleaseAnswer, StepInPlace, RouteInPlace, ReleaseSurfaceInPlace, ReleaseAllInPlace}
 
 -- a call of an entry of `in_place`, by its name there: its arguments, and what it answered
 pub data InPlaceCall : Type 0 where
@@ -55,25 +55,29 @@ asked (route e answer) = router_call (router.Route e)
 asked (release_surface h answer) = router_call (router.ReleaseSurface h)
 asked (release_all answer) = router_call router.ReleaseAll
 
+-- what an event reports: nothing where it is refused
+abbrev pub report_in : RouteAnswer → PlatformInputRoutingReport
+report_in a = result_unwrap_or a no_report
+
 -- what the book is told of the answer of `route`, and the releases that it lists
 abbrev pub route_entry : PlatformInputEvent → RouteAnswer → Entry
 route_entry e a = record {
   asked = router_call (router.Route e);
   told = record {
-    number = router_number_of a.outcome;
-    handle = handle.None;
-    consumer = a.report.arbitration.consumed_by;
-    deliveries = entries_of deliveries a.report.arbitration.deliveries;
+    number = router_number_of (result_and a (Ok tt));
+    handle = None;
+    consumer = (report_in a).arbitration.consumed_by;
+    deliveries = entries_of deliveries (report_in a).arbitration.deliveries;
   };
-  listed = entries_of releases a.report.synthesized_releases;
+  listed = entries_of releases (report_in a).synthesized_releases;
 }
 
 -- what the book is told of the answer of a router release, and the releases that it lists
 abbrev pub release_entry : RouterCall → ReleaseAnswer → Entry
 release_entry call a = record {
   asked = router_call call;
-  told = record { number = router_number_of a.outcome; handle = handle.None; consumer = handle.None; deliveries = [] };
-  listed = entries_of releases a.releases;
+  told = record { number = router_number_of (result_and a (Ok tt)); handle = None; consumer = None; deliveries = [] };
+  listed = entries_of releases (result_unwrap_or a (packed releases []));
 }
 
 -- the entry of the history that a call is

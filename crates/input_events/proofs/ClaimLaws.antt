@@ -1,4 +1,6 @@
 -- The claims about events, by the cases of the definitions; that no number is of two cases, by reading the case back from its number.
+use Rattle.handles.specs.declared.GenerationalHandle.{GenerationalHandle}
+use Rattle.std.specs.Prelude.{Option, None, Some}
 use Prim.Native.Nat.{ℕ, suc, ◌≤◌}
 use mathlib.Core.Path.{◌≡◌, refl, sym, ap, ◌∙◌}
 use mathlib.Core.Bool.{Bool, true, false, cond, ◌||◌}
@@ -6,7 +8,6 @@ use native.Mathlib.Omega.{arith}
 use borrow.Author.Tests.{eqb-true, eqb-false}
 use lib.Dec.{eqb, ltb, leb}
 use Rattle.lists.proofs.ListLaws.{by_test, clash}
-use Rattle.handles.specs.declared.OptionalHandle.{OptionalHandle}
 use Rattle.maps.specs.declared.keys.BindingKey.{BindingKey}
 use Rattle.maps.specs.declared.keys.CompositionPointerId.{CompositionPointerId}
 use Rattle.maps.specs.declared.keys.InputDeviceId.{InputDeviceId}
@@ -23,7 +24,6 @@ use Rattle.input_events.specs.declared.event.PlatformInputPayload.TheVariants.{P
 use Rattle.input_events.specs.declared.event.PointerInput.{PointerInput}
 use Rattle.input_events.specs.declared.event.PointerPhase.{PointerPhase}
 use Rattle.input_events.specs.declared.event.PointerPhase.TheVariants as P
-use Rattle.input_events.specs.declared.presses.OptionalPress.TheVariants.{None, Some}
 use Rattle.input_events.specs.RouterErrors.{router_error_number}
 use Rattle.input_events.specs.Checks.{is_upright, payload_refusal}
 use Rattle.input_events.specs.Presses.{press_in, pointer_effect, key_effect, gamepad_effect, effect_in}
@@ -169,7 +169,7 @@ own_press d (VisibilityChanged visible) press h = h
 own_press d DeviceDisconnected press h = h
 
 -- ---- the hits of an event
-module _ (held : OptionalHandle) where
+module _ (held : Option GenerationalHandle) where
   aimed : (phase : PointerPhase) (pointer : CompositionPointerId) → is_aimed phase ≡ is_stack_for (pointer_event phase pointer held)
   aimed P.Down pointer = refl
   aimed P.Move pointer = refl
@@ -188,7 +188,7 @@ by_shortcut : (system : Bool) (mask : ℕ) → false ≡ is_stack_for (shortcut_
 by_shortcut true mask = refl
 by_shortcut false mask = refl
 
-hits_asked : (d : InputDeviceId) (payload : PlatformInputPayload) (held : OptionalHandle) → needs_hits payload ≡ is_stack_for (arbitration_event_in d payload held)
+hits_asked : (d : InputDeviceId) (payload : PlatformInputPayload) (held : Option GenerationalHandle) → needs_hits payload ≡ is_stack_for (arbitration_event_in d payload held)
 unfolding needs_hits arbitration_event_in
 hits_asked d (Pointer p) held = aimed held p.phase _
 hits_asked d (Wheel w) held = refl

@@ -1,4 +1,3 @@
 pub mod ErrorLaws
-pub mod DeliveryLaws
 pub mod TiltLaws
 pub mod ClaimLaws

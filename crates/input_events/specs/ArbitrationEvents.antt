@@ -1,7 +1,7 @@
 -- What an event asks the registry to arbitrate (RULES.md, Targets), and which events release instead (Release order).
-use Rattle.std.specs.Prelude.{ℕ, Bool, true, false, not, pos}
+use Rattle.handles.specs.declared.GenerationalHandle.{GenerationalHandle}
+use Rattle.std.specs.Prelude.{ℕ, Bool, true, false, not, pos, Option}
 use Rattle.geometry.specs.declared.transform.Point.{Point}
-use Rattle.handles.specs.declared.OptionalHandle.{OptionalHandle}
 use Rattle.maps.specs.declared.keys.CompositionPointerId.{CompositionPointerId}
 use Rattle.maps.specs.declared.keys.InputDeviceId.{InputDeviceId}
 use Rattle.records.specs.declared.trace.ArbitrationEvent.{ArbitrationEvent}
@@ -19,18 +19,18 @@ use Rattle.input_events.specs.Presses.{pointer_of}
 
 -- Targets, "An event that names its pointer": Down and Move aim by the hits, Up and Cancel by the panel that holds the
 -- press
-abbrev pub pointer_event : PointerPhase → CompositionPointerId → OptionalHandle → ArbitrationEvent
+abbrev pub pointer_event : PointerPhase → CompositionPointerId → Option GenerationalHandle → ArbitrationEvent
 pointer_event P.Down pointer held = A.PointerStackFor pointer
 pointer_event P.Move pointer held = A.PointerStackFor pointer
 pointer_event P.Up pointer held = A.PointerFor pointer held
 pointer_event P.Cancel pointer held = A.PointerFor pointer held
 
 -- Targets, "KeyboardFor and GamepadFor: the target given": what ends a press goes to the panel that holds it
-abbrev pub key_event : KeyPhase → OptionalHandle → ArbitrationEvent
+abbrev pub key_event : KeyPhase → Option GenerationalHandle → ArbitrationEvent
 key_event K.Down held = A.Keyboard
 key_event K.Up held = A.KeyboardFor held
 
-abbrev pub gamepad_event : Bool → OptionalHandle → ArbitrationEvent
+abbrev pub gamepad_event : Bool → Option GenerationalHandle → ArbitrationEvent
 gamepad_event true held = A.Gamepad
 gamepad_event false held = A.GamepadFor held
 
@@ -43,7 +43,7 @@ shortcut_event false mask = A.Shortcut
 -- `FocusChanged { .. } | VisibilityChanged { .. } => Ok(ArbitrationEvent::Keyboard)`. A disconnect never is (the Rust
 -- has
 -- `unreachable!()` there), so nothing rests on its row.
-unfoldable pub arbitration_event_in : InputDeviceId → PlatformInputPayload → OptionalHandle → ArbitrationEvent
+unfoldable pub arbitration_event_in : InputDeviceId → PlatformInputPayload → Option GenerationalHandle → ArbitrationEvent
 arbitration_event_in d (Pointer p) held = pointer_event p.phase (pointer_of d p.contact) held
 arbitration_event_in d (Wheel w) held = A.PointerStackFor (pointer_of d w.contact)
 arbitration_event_in d (Key k) held = key_event k.phase held
@@ -55,7 +55,7 @@ arbitration_event_in d (FocusChanged focused) held = A.Keyboard
 arbitration_event_in d (VisibilityChanged visible) held = A.Keyboard
 arbitration_event_in d DeviceDisconnected held = A.Keyboard
 
-abbrev pub arbitration_event : PlatformInputEvent → OptionalHandle → ArbitrationEvent
+abbrev pub arbitration_event : PlatformInputEvent → Option GenerationalHandle → ArbitrationEvent
 arbitration_event e held = arbitration_event_in e.header.device e.payload held
 
 -- Hit test: the events whose targets are the hits at their point

@@ -1,6 +1,6 @@
 -- What holds of the events' definitions: rows of RULES.md, Counter table, the numbers, and the press of an event.
-use Rattle.std.specs.Prelude.{ℕ, ◌≤◌, ◌≡◌, Bool, true, false, ◌||◌, eqb, ltb, leb, pos, neg_ℤ}
-use Rattle.handles.specs.declared.OptionalHandle.{OptionalHandle}
+use Rattle.handles.specs.declared.GenerationalHandle.{GenerationalHandle}
+use Rattle.std.specs.Prelude.{ℕ, ◌≤◌, ◌≡◌, Bool, true, false, ◌||◌, eqb, ltb, leb, pos, neg_ℤ, Option, None, Some}
 use Rattle.maps.specs.declared.keys.BindingKey.{BindingKey}
 use Rattle.maps.specs.declared.keys.InputDeviceId.{InputDeviceId}
 use Rattle.records.specs.Errors.{error_number}
@@ -16,8 +16,6 @@ use Rattle.input_events.specs.declared.event.PlatformInputPayload.TheVariants.{P
 use Rattle.input_events.specs.declared.event.PointerInput.{PointerInput}
 use Rattle.input_events.specs.declared.presses.Effect.{Effect}
 use Rattle.input_events.specs.declared.presses.Effect.TheVariants.{Opens, Ends, Nothing}
-use Rattle.input_events.specs.declared.presses.OptionalPress.{OptionalPress}
-use Rattle.input_events.specs.declared.presses.OptionalPress.TheVariants.{None, Some}
 use Rattle.input_events.specs.RouterErrors.{router_error_number, router_number_of}
 use Rattle.input_events.specs.Checks.{is_upright, payload_refusal}
 use Rattle.input_events.specs.Presses.{press_of, effect_of}
@@ -71,7 +69,7 @@ pub record OwnOf (n : ℕ) : Type 0 where
   pub numbered : router_error_number refusal ≡ n
 
 -- the press that an effect opens or ends
-abbrev pub touched : Effect → OptionalPress
+abbrev pub touched : Effect → Option BindingKey
 touched (Opens press) = Some press
 touched (Ends press) = Some press
 touched Nothing = None
@@ -105,5 +103,5 @@ pub record EventClaims : Type 0 where
   pub own_press : (e : PlatformInputEvent) (press : BindingKey) → touched (effect_of e) ≡ Some press → press_of e
       ≡ Some press
   -- the hits are asked for exactly where the targets are the hits
-  pub hits_asked : (d : InputDeviceId) (payload : PlatformInputPayload) (held : OptionalHandle) → needs_hits payload
+  pub hits_asked : (d : InputDeviceId) (payload : PlatformInputPayload) (held : Option GenerationalHandle) → needs_hits payload
       ≡ is_stack_for (arbitration_event_in d payload held)

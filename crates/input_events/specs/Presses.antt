@@ -1,17 +1,14 @@
 -- RULES.md, Presses: "A press is a pointer, a device's key or its gamepad".
-use Rattle.std.specs.Prelude.{ℕ, Bool, true, false, not}
-use Rattle.std.proofs.Math.Option.{Option, none, some}
+use Rattle.handles.specs.declared.GenerationalHandle.{GenerationalHandle}
+use Rattle.std.specs.Prelude.{ℕ, Bool, true, false, not, Option, None, Some}
 use Rattle.lists.specs.Lists.{first}
 use Rattle.lists.specs.Tables.{entries_of}
-use Rattle.handles.specs.declared.OptionalHandle.{OptionalHandle}
-use Rattle.handles.specs.declared.OptionalHandle.TheVariants as O
 use Rattle.maps.specs.declared.keys.BindingKey.{BindingKey}
 use Rattle.maps.specs.declared.keys.BindingKey.TheVariants as B
 use Rattle.maps.specs.declared.keys.CompositionPointerId.{CompositionPointerId}
 use Rattle.maps.specs.declared.keys.InputDeviceId.{InputDeviceId}
-use Rattle.records.specs.declared.trace.Deliveries.{Deliveries}
+use Rattle.records.specs.Traces.{Deliveries, deliveries}
 use Rattle.records.specs.declared.trace.InputDelivery.{InputDelivery}
-use Rattle.records.specs.Traces.{deliveries}
 use Rattle.input_events.specs.declared.event.KeyPhase.{KeyPhase}
 use Rattle.input_events.specs.declared.event.KeyPhase.TheVariants as K
 use Rattle.input_events.specs.declared.event.PlatformInputEvent.{PlatformInputEvent}
@@ -21,8 +18,6 @@ use Rattle.input_events.specs.declared.event.PointerPhase.{PointerPhase}
 use Rattle.input_events.specs.declared.event.PointerPhase.TheVariants as P
 use Rattle.input_events.specs.declared.presses.Effect.{Effect}
 use Rattle.input_events.specs.declared.presses.Effect.TheVariants.{Opens, Ends, Nothing}
-use Rattle.input_events.specs.declared.presses.OptionalPress.{OptionalPress}
-use Rattle.input_events.specs.declared.presses.OptionalPress.TheVariants.{None, Some}
 
 -- a contact of a device, as the press of a pointer; and a device's key
 abbrev pub pointer_of : InputDeviceId → ℕ → CompositionPointerId
@@ -35,7 +30,7 @@ abbrev pub key_press : InputDeviceId → ℕ → BindingKey
 key_press d key = B.Key (record { device = d; physical_key = key })
 
 -- the press that an event concerns: a wheel, a shortcut, a text and a composition have none
-unfoldable pub press_in : InputDeviceId → PlatformInputPayload → OptionalPress
+unfoldable pub press_in : InputDeviceId → PlatformInputPayload → Option BindingKey
 press_in d (Pointer p) = Some (pointer_press d p.contact)
 press_in d (Wheel w) = None
 press_in d (Key k) = Some (key_press d k.physical_key)
@@ -47,7 +42,7 @@ press_in d (FocusChanged focused) = None
 press_in d (VisibilityChanged visible) = None
 press_in d DeviceDisconnected = None
 
-abbrev pub press_of : PlatformInputEvent → OptionalPress
+abbrev pub press_of : PlatformInputEvent → Option BindingKey
 press_of e = press_in e.header.device e.payload
 
 -- "A pointer Down, a key Down without repeat or a connected snapshot with a receiver opens the press or moves it to the
@@ -88,10 +83,10 @@ effect_of e = effect_in e.header.device e.payload
 abbrev pub is_unobserved : InputDelivery → Bool
 is_unobserved d = not d.observed
 
-abbrev pub delivery_surface : Option InputDelivery → OptionalHandle
-delivery_surface none = O.None
-delivery_surface (some d) = O.Some d.surface
+abbrev pub delivery_surface : Option InputDelivery → Option GenerationalHandle
+delivery_surface None = None
+delivery_surface (Some d) = Some d.surface
 
-unfoldable pub receiver_of : OptionalHandle → Deliveries → OptionalHandle
-receiver_of O.None l = delivery_surface (first is_unobserved (entries_of deliveries l))
-receiver_of (O.Some consumer) l = O.Some consumer
+unfoldable pub receiver_of : Option GenerationalHandle → Deliveries → Option GenerationalHandle
+receiver_of None l = delivery_surface (first is_unobserved (entries_of deliveries l))
+receiver_of (Some consumer) l = Some consumer

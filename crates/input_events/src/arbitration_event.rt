@@ -8,26 +8,26 @@ use crate::event::{
 };
 use crate::presses::pointer_of;
 use geometry::transform::Point;
-use handles::OptionalHandle;
+use handles::GenerationalHandle;
 use maps::keys::{CompositionPointerId, InputDeviceId};
 use records::trace::ArbitrationEvent;
 
 fn pointer_event(
     phase: PointerPhase,
     pointer: CompositionPointerId,
-    held: OptionalHandle,
+    held: Option<GenerationalHandle>,
 ) -> ArbitrationEvent
     ensures { result ≡ pointer_event phase pointer held }
 {
     match phase {
-        PointerPhase::Down => ArbitrationEvent::PointerStackFor { pointer },
-        PointerPhase::Move => ArbitrationEvent::PointerStackFor { pointer },
-        PointerPhase::Up => ArbitrationEvent::PointerFor { pointer, hit: held },
-        PointerPhase::Cancel => ArbitrationEvent::PointerFor { pointer, hit: held },
+        PointerPhase::Down | PointerPhase::Move => ArbitrationEvent::PointerStackFor { pointer },
+        PointerPhase::Up | PointerPhase::Cancel => {
+            ArbitrationEvent::PointerFor { pointer, hit: held }
+        }
     }
 }
 
-fn key_event(phase: KeyPhase, held: OptionalHandle) -> ArbitrationEvent
+fn key_event(phase: KeyPhase, held: Option<GenerationalHandle>) -> ArbitrationEvent
     ensures { result ≡ key_event phase held }
 {
     match phase {
@@ -40,88 +40,83 @@ fn shortcut_event(shortcut: ShortcutInput) -> ArbitrationEvent
     ensures { result ≡ shortcut_event shortcut.system shortcut.class_mask }
 {
     if shortcut.system {
-        return ArbitrationEvent::SystemShortcut {
+        ArbitrationEvent::SystemShortcut {
             class_mask: shortcut.class_mask,
-        };
+        }
+    } else {
+        ArbitrationEvent::Shortcut
     }
-    ArbitrationEvent::Shortcut
 }
 
-fn gamepad_event(gamepad: GamepadInput, held: OptionalHandle) -> ArbitrationEvent
+fn gamepad_event(gamepad: GamepadInput, held: Option<GenerationalHandle>) -> ArbitrationEvent
     ensures { result ≡ gamepad_event gamepad.connected held }
 {
     if gamepad.connected {
-        return ArbitrationEvent::Gamepad;
+        ArbitrationEvent::Gamepad
+    } else {
+        ArbitrationEvent::GamepadFor { target: held }
     }
-    ArbitrationEvent::GamepadFor { target: held }
 }
 
+#[tactic(auto, unfolding(crate::specs::ArbitrationEvents::arbitration_event_in))]
 fn arbitration_event_in(
     device: InputDeviceId,
     payload: PlatformInputPayload,
-    held: OptionalHandle,
+    held: Option<GenerationalHandle>,
 ) -> ArbitrationEvent
     ensures { result ≡ arbitration_event_in device payload held }
 {
     match payload {
         PlatformInputPayload::Pointer(pointer) => {
-            let phase = pointer.phase;
-            pointer_event(phase, pointer_of(device, pointer.contact), held)
+            pointer_event(pointer.phase, pointer_of(device, pointer.contact), held)
         }
         PlatformInputPayload::Wheel(wheel) => ArbitrationEvent::PointerStackFor {
             pointer: pointer_of(device, wheel.contact),
         },
-        PlatformInputPayload::Key(key) => {
-            let phase = key.phase;
-            key_event(phase, held)
-        }
+        PlatformInputPayload::Key(key) => key_event(key.phase, held),
         PlatformInputPayload::Shortcut(shortcut) => shortcut_event(shortcut),
-        PlatformInputPayload::Text(_) => ArbitrationEvent::Text,
-        PlatformInputPayload::Composition(_) => ArbitrationEvent::Text,
+        PlatformInputPayload::Text(_) | PlatformInputPayload::Composition(_) => {
+            ArbitrationEvent::Text
+        }
         PlatformInputPayload::GamepadSnapshot(gamepad) => gamepad_event(gamepad, held),
-        PlatformInputPayload::FocusChanged(_) => ArbitrationEvent::Keyboard,
-        PlatformInputPayload::VisibilityChanged(_) => ArbitrationEvent::Keyboard,
-        PlatformInputPayload::DeviceDisconnected => ArbitrationEvent::Keyboard,
+        PlatformInputPayload::FocusChanged(_)
+        | PlatformInputPayload::VisibilityChanged(_)
+        | PlatformInputPayload::DeviceDisconnected => ArbitrationEvent::Keyboard,
     }
 }
 
 // What an event asks the registry to arbitrate, with the panel that holds its press. A disconnect is never arbitrated.
-pub fn arbitration_event(event: PlatformInputEvent, held: OptionalHandle) -> ArbitrationEvent
+pub fn arbitration_event(
+    event: PlatformInputEvent,
+    held: Option<GenerationalHandle>,
+) -> ArbitrationEvent
     ensures { result ≡ arbitration_event event held }
 {
-    let payload = event.payload;
-    arbitration_event_in(event.header.device, payload, held)
+    arbitration_event_in(event.header.device, event.payload, held)
 }
 
 fn is_aimed(phase: PointerPhase) -> bool
     ensures { result ≡ is_aimed phase }
 {
-    match phase {
-        PointerPhase::Down => true,
-        PointerPhase::Move => true,
-        PointerPhase::Up => false,
-        PointerPhase::Cancel => false,
-    }
+    matches!(phase, PointerPhase::Down | PointerPhase::Move)
 }
 
 // Whether an event needs the hits at its point.
+#[tactic(auto, unfolding(crate::specs::ArbitrationEvents::needs_hits))]
 pub fn needs_hits(payload: PlatformInputPayload) -> bool
     ensures { result ≡ needs_hits payload }
 {
     match payload {
-        PlatformInputPayload::Pointer(pointer) => {
-            let phase = pointer.phase;
-            is_aimed(phase)
-        }
+        PlatformInputPayload::Pointer(pointer) => is_aimed(pointer.phase),
         PlatformInputPayload::Wheel(_) => true,
-        PlatformInputPayload::Key(_) => false,
-        PlatformInputPayload::Shortcut(_) => false,
-        PlatformInputPayload::Text(_) => false,
-        PlatformInputPayload::Composition(_) => false,
-        PlatformInputPayload::GamepadSnapshot(_) => false,
-        PlatformInputPayload::FocusChanged(_) => false,
-        PlatformInputPayload::VisibilityChanged(_) => false,
-        PlatformInputPayload::DeviceDisconnected => false,
+        PlatformInputPayload::Key(_)
+        | PlatformInputPayload::Shortcut(_)
+        | PlatformInputPayload::Text(_)
+        | PlatformInputPayload::Composition(_)
+        | PlatformInputPayload::GamepadSnapshot(_)
+        | PlatformInputPayload::FocusChanged(_)
+        | PlatformInputPayload::VisibilityChanged(_)
+        | PlatformInputPayload::DeviceDisconnected => false,
     }
 }
 
@@ -153,55 +148,47 @@ fn no_point() -> Point
 }
 
 // The point of an event, in thousandths; of an event that has none, the corner of its view.
+#[tactic(auto, unfolding(crate::specs::ArbitrationEvents::point_of))]
 pub fn point_of(payload: PlatformInputPayload) -> Point
     ensures { result ≡ point_of payload }
 {
     match payload {
         PlatformInputPayload::Pointer(pointer) => pointer_point(pointer),
         PlatformInputPayload::Wheel(wheel) => wheel_point(wheel),
-        PlatformInputPayload::Key(_) => no_point(),
-        PlatformInputPayload::Shortcut(_) => no_point(),
-        PlatformInputPayload::Text(_) => no_point(),
-        PlatformInputPayload::Composition(_) => no_point(),
-        PlatformInputPayload::GamepadSnapshot(_) => no_point(),
-        PlatformInputPayload::FocusChanged(_) => no_point(),
-        PlatformInputPayload::VisibilityChanged(_) => no_point(),
-        PlatformInputPayload::DeviceDisconnected => no_point(),
+        PlatformInputPayload::Key(_)
+        | PlatformInputPayload::Shortcut(_)
+        | PlatformInputPayload::Text(_)
+        | PlatformInputPayload::Composition(_)
+        | PlatformInputPayload::GamepadSnapshot(_)
+        | PlatformInputPayload::FocusChanged(_)
+        | PlatformInputPayload::VisibilityChanged(_)
+        | PlatformInputPayload::DeviceDisconnected => no_point(),
     }
 }
 
 // Whether an event is its view's loss of focus or visibility.
+#[tactic(auto, unfolding(crate::specs::ArbitrationEvents::is_loss))]
 pub fn is_loss(payload: PlatformInputPayload) -> bool
     ensures { result ≡ is_loss payload }
 {
     match payload {
-        PlatformInputPayload::Pointer(_) => false,
-        PlatformInputPayload::Wheel(_) => false,
-        PlatformInputPayload::Key(_) => false,
-        PlatformInputPayload::Shortcut(_) => false,
-        PlatformInputPayload::Text(_) => false,
-        PlatformInputPayload::Composition(_) => false,
-        PlatformInputPayload::GamepadSnapshot(_) => false,
-        PlatformInputPayload::FocusChanged(focused) => !focused,
-        PlatformInputPayload::VisibilityChanged(visible) => !visible,
-        PlatformInputPayload::DeviceDisconnected => false,
+        PlatformInputPayload::FocusChanged(kept) | PlatformInputPayload::VisibilityChanged(kept) =>
+            { !kept }
+        PlatformInputPayload::Pointer(_)
+        | PlatformInputPayload::Wheel(_)
+        | PlatformInputPayload::Key(_)
+        | PlatformInputPayload::Shortcut(_)
+        | PlatformInputPayload::Text(_)
+        | PlatformInputPayload::Composition(_)
+        | PlatformInputPayload::GamepadSnapshot(_)
+        | PlatformInputPayload::DeviceDisconnected => false,
     }
 }
 
 // Whether an event is its device's disconnect.
+#[tactic(auto, unfolding(crate::specs::ArbitrationEvents::is_disconnect))]
 pub fn is_disconnect(payload: PlatformInputPayload) -> bool
     ensures { result ≡ is_disconnect payload }
 {
-    match payload {
-        PlatformInputPayload::Pointer(_) => false,
-        PlatformInputPayload::Wheel(_) => false,
-        PlatformInputPayload::Key(_) => false,
-        PlatformInputPayload::Shortcut(_) => false,
-        PlatformInputPayload::Text(_) => false,
-        PlatformInputPayload::Composition(_) => false,
-        PlatformInputPayload::GamepadSnapshot(_) => false,
-        PlatformInputPayload::FocusChanged(_) => false,
-        PlatformInputPayload::VisibilityChanged(_) => false,
-        PlatformInputPayload::DeviceDisconnected => true,
-    }
+    matches!(payload, PlatformInputPayload::DeviceDisconnected)
 }

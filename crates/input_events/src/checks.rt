@@ -2,15 +2,14 @@
 ghost use Rattle.std.specs.Prelude.{◌≡◌};
 ghost use Rattle.input_events.specs.Checks.{contact_refusal, is_tilt_allowed, pointer_refusal, selection_refusal, shortcut_refusal, payload_refusal, device_refusal, found_view, window_refusal, metrics_refusal, header_refusal_in, event_refusal_in, event_refusal};
 
-use crate::error::{PlatformInputError, RouterOutcome, from_composition, refuse_if};
+use crate::error::{PlatformInputError, RouterOutcome};
 use crate::event::{
     CompositionInput, PlatformInputEvent, PlatformInputHeader, PlatformInputPayload, PointerInput,
     ShortcutInput,
 };
-use handles::{GenerationalHandle, same_handle};
-use lists::both;
+use handles::GenerationalHandle;
 use maps::keys::InputDeviceId;
-use records::error::{CompositionError, Outcome};
+use records::error::{CompositionError, Outcome, refuse_if};
 use records::view::ViewTable;
 
 fn contact_refusal(contact: u32) -> RouterOutcome
@@ -22,30 +21,29 @@ fn contact_refusal(contact: u32) -> RouterOutcome
 fn is_tilt_allowed(pointer: PointerInput) -> bool
     ensures { result ≡ is_tilt_allowed pointer }
 {
-    let x = both(pointer.tilt_x_degrees >= -90, pointer.tilt_x_degrees <= 90);
-    let y = both(pointer.tilt_y_degrees >= -90, pointer.tilt_y_degrees <= 90);
-    both(x, y)
+    pointer.tilt_x_degrees >= -90
+        && pointer.tilt_x_degrees <= 90
+        && pointer.tilt_y_degrees >= -90
+        && pointer.tilt_y_degrees <= 90
 }
 
 fn pointer_refusal(pointer: PointerInput) -> RouterOutcome
     ensures { result ≡ pointer_refusal pointer }
 {
-    let contact = contact_refusal(pointer.contact);
-    let pressure = refuse_if(
+    contact_refusal(pointer.contact)?;
+    refuse_if(
         pointer.pressure_q15 > 32768,
         PlatformInputError::InvalidPressure,
-    );
-    let tilt = refuse_if(!is_tilt_allowed(pointer), PlatformInputError::InvalidTilt);
-    contact.then(pressure.then(tilt))
+    )?;
+    refuse_if(!is_tilt_allowed(pointer), PlatformInputError::InvalidTilt)
 }
 
 fn selection_refusal(composition: CompositionInput) -> RouterOutcome
     ensures { result ≡ selection_refusal composition }
 {
-    let forward = composition.selection_start <= composition.selection_end;
-    let inside = composition.selection_end <= composition.length;
     refuse_if(
-        !both(forward, inside),
+        composition.selection_start > composition.selection_end
+            || composition.selection_end > composition.length,
         PlatformInputError::InvalidTextSelection,
     )
 }
@@ -60,20 +58,21 @@ fn shortcut_refusal(shortcut: ShortcutInput) -> RouterOutcome
 }
 
 // What a payload is refused for.
+#[tactic(auto, unfolding(crate::specs::Checks::payload_refusal))]
 pub fn payload_refusal(payload: PlatformInputPayload) -> RouterOutcome
     ensures { result ≡ payload_refusal payload }
 {
     match payload {
         PlatformInputPayload::Pointer(pointer) => pointer_refusal(pointer),
         PlatformInputPayload::Wheel(wheel) => contact_refusal(wheel.contact),
-        PlatformInputPayload::Key(_) => RouterOutcome::Accepted,
         PlatformInputPayload::Shortcut(shortcut) => shortcut_refusal(shortcut),
-        PlatformInputPayload::Text(_) => RouterOutcome::Accepted,
         PlatformInputPayload::Composition(composition) => selection_refusal(composition),
-        PlatformInputPayload::GamepadSnapshot(_) => RouterOutcome::Accepted,
-        PlatformInputPayload::FocusChanged(_) => RouterOutcome::Accepted,
-        PlatformInputPayload::VisibilityChanged(_) => RouterOutcome::Accepted,
-        PlatformInputPayload::DeviceDisconnected => RouterOutcome::Accepted,
+        PlatformInputPayload::Key(_)
+        | PlatformInputPayload::Text(_)
+        | PlatformInputPayload::GamepadSnapshot(_)
+        | PlatformInputPayload::FocusChanged(_)
+        | PlatformInputPayload::VisibilityChanged(_)
+        | PlatformInputPayload::DeviceDisconnected => Ok(()),
     }
 }
 
@@ -83,7 +82,8 @@ pub fn device_refusal(device: InputDeviceId) -> RouterOutcome
     refuse_if(!device.is_valid(), PlatformInputError::InvalidDevice)
 }
 
-// What is found of a header's view: why it is no live view, its window and the revision of its metrics.
+// What is found of a header's view: why it is no live view, if so, its window and the revision of its metrics. No
+// Result: the refusal comes after others in the order of checks, and the rest is read of any slot.
 #[derive(Clone, Copy)]
 pub struct FoundView {
     pub unknown: Outcome,
@@ -96,11 +96,9 @@ pub fn find_view(views: ViewTable, view: GenerationalHandle) -> FoundView
     ensures { result ≡ found_view views view }
 {
     let record = views.record(view);
-    let window = record.window;
-    let unknown = views.refusal(view);
     FoundView {
-        unknown,
-        window,
+        unknown: views.refusal(view),
+        window: record.window,
         metrics_revision: record.metrics.revision,
     }
 }
@@ -109,7 +107,7 @@ fn window_refusal(found: FoundView, header: PlatformInputHeader) -> RouterOutcom
     ensures { result ≡ window_refusal found header }
 {
     refuse_if(
-        !same_handle(found.window, header.window),
+        found.window != header.window,
         PlatformInputError::InvalidWindow,
     )
 }
@@ -124,28 +122,26 @@ fn metrics_refusal(found: FoundView, header: PlatformInputHeader) -> RouterOutco
 }
 
 // What a header is refused for: its view, the window of that view, and the revision of its metrics.
+#[tactic(auto, unfolding(crate::specs::Checks::header_refusal_in))]
 pub fn header_refusal_in(found: FoundView, header: PlatformInputHeader) -> RouterOutcome
     ensures { result ≡ header_refusal_in found header }
 {
-    let outcome = found.unknown;
-    let unknown = from_composition(outcome);
-    let window = window_refusal(found, header);
-    let metrics = metrics_refusal(found, header);
-    unknown.then(window.then(metrics))
+    found.unknown?;
+    window_refusal(found, header)?;
+    metrics_refusal(found, header)
 }
 
 // What an event is refused for, by what is found of its view and whatever the router holds.
 pub fn event_refusal_in(found: FoundView, event: PlatformInputEvent) -> RouterOutcome
     ensures { result ≡ event_refusal_in found event }
 {
-    let payload = event.payload;
-    let by_device = device_refusal(event.header.device);
-    let by_header = header_refusal_in(found, event.header);
-    let by_payload = payload_refusal(payload);
-    by_device.then(by_header.then(by_payload))
+    device_refusal(event.header.device)?;
+    header_refusal_in(found, event.header)?;
+    payload_refusal(event.payload)
 }
 
 // The same with the table of views.
+#[tactic(auto, unfolding(crate::specs::Checks::event_refusal))]
 pub fn event_refusal(views: ViewTable, event: PlatformInputEvent) -> RouterOutcome
     ensures { result ≡ event_refusal views event }
 {

@@ -3,7 +3,7 @@
 use handles::GenerationalHandle;
 use maps::keys::InputDeviceId;
 
-#[derive(Clone, Copy)]
+#[derive(Clone, Copy, PartialEq, Eq)]
 pub enum InputDeviceKind {
     Mouse,
     Touch,
@@ -12,7 +12,7 @@ pub enum InputDeviceKind {
     Gamepad,
 }
 
-#[derive(Clone, Copy)]
+#[derive(Clone, Copy, PartialEq, Eq)]
 pub struct InputModifiers {
     pub shift: bool,
     pub control: bool,
@@ -22,13 +22,13 @@ pub struct InputModifiers {
     pub num_lock: bool,
 }
 
-#[derive(Clone, Copy)]
+#[derive(Clone, Copy, PartialEq, Eq)]
 pub enum KeyPhase {
     Down,
     Up,
 }
 
-#[derive(Clone, Copy)]
+#[derive(Clone, Copy, PartialEq, Eq)]
 pub enum PointerPhase {
     Down,
     Move,
@@ -36,14 +36,14 @@ pub enum PointerPhase {
     Cancel,
 }
 
-#[derive(Clone, Copy)]
+#[derive(Clone, Copy, PartialEq, Eq)]
 pub enum WheelUnit {
     Pixel,
     Line,
     Page,
 }
 
-#[derive(Clone, Copy)]
+#[derive(Clone, Copy, PartialEq, Eq)]
 pub enum CompositionPhase {
     Start,
     Update,
@@ -51,19 +51,13 @@ pub enum CompositionPhase {
     Cancel,
 }
 
-#[derive(Clone, Copy)]
+#[derive(Clone, Copy, PartialEq, Eq)]
 pub enum GamepadMapping {
     Standard,
     Raw,
 }
 
-#[derive(Clone, Copy)]
-pub enum OptionalButton {
-    None,
-    Some(u8),
-}
-
-#[derive(Clone, Copy)]
+#[derive(Clone, Copy, PartialEq, Eq)]
 pub struct PlatformInputHeader {
     pub sequence: u64,
     pub timestamp_micros: u64,
@@ -75,7 +69,7 @@ pub struct PlatformInputHeader {
     pub modifiers: InputModifiers,
 }
 
-#[derive(Clone, Copy)]
+#[derive(Clone, Copy, PartialEq, Eq)]
 pub struct PointerInput {
     pub contact: u32,
     pub phase: PointerPhase,
@@ -87,10 +81,10 @@ pub struct PointerInput {
     pub tilt_x_degrees: i16,
     pub tilt_y_degrees: i16,
     pub buttons: u32,
-    pub changed_button: OptionalButton,
+    pub changed_button: Option<u8>,
 }
 
-#[derive(Clone, Copy)]
+#[derive(Clone, Copy, PartialEq, Eq)]
 pub struct WheelInput {
     pub contact: u32,
     pub x_milli: i32,
@@ -100,27 +94,27 @@ pub struct WheelInput {
     pub unit: WheelUnit,
 }
 
-#[derive(Clone, Copy)]
+#[derive(Clone, Copy, PartialEq, Eq)]
 pub struct KeyInput {
     pub phase: KeyPhase,
     pub physical_key: u32,
     pub repeat: bool,
 }
 
-#[derive(Clone, Copy)]
+#[derive(Clone, Copy, PartialEq, Eq)]
 pub struct ShortcutInput {
     pub class_mask: u64,
     pub system: bool,
 }
 
 // A text, by its length in bytes.
-#[derive(Clone, Copy)]
+#[derive(Clone, Copy, PartialEq, Eq)]
 pub struct TextInput {
     pub length: u32,
 }
 
 // The text of an input method, by its length in bytes, and what is selected of it.
-#[derive(Clone, Copy)]
+#[derive(Clone, Copy, PartialEq, Eq)]
 pub struct CompositionInput {
     pub phase: CompositionPhase,
     pub length: u32,
@@ -128,13 +122,13 @@ pub struct CompositionInput {
     pub selection_end: u32,
 }
 
-#[derive(Clone, Copy)]
+#[derive(Clone, Copy, PartialEq, Eq)]
 pub struct GamepadInput {
     pub connected: bool,
     pub mapping: GamepadMapping,
 }
 
-#[derive(Clone, Copy)]
+#[derive(Clone, Copy, PartialEq, Eq)]
 pub enum PlatformInputPayload {
     Pointer(PointerInput),
     Wheel(WheelInput),
@@ -148,7 +142,7 @@ pub enum PlatformInputPayload {
     DeviceDisconnected,
 }
 
-#[derive(Clone, Copy)]
+#[derive(Clone, Copy, PartialEq, Eq)]
 pub struct PlatformInputEvent {
     pub header: PlatformInputHeader,
     pub payload: PlatformInputPayload,

@@ -1,5 +1,5 @@
 // Which press an event concerns, what becomes of that press, and which panel receives it.
-ghost use Rattle.std.specs.Prelude.{◌≡◌, length};
+ghost use Rattle.std.specs.Prelude.{◌≡◌};
 ghost use Rattle.lists.specs.Lists.{first};
 ghost use Rattle.lists.specs.Tables.{entries_of};
 ghost use Rattle.records.specs.Traces.{deliveries as state_deliveries};
@@ -8,18 +8,12 @@ ghost use Rattle.input_events.specs.Presses.{pointer_of, pointer_press, key_pres
 use crate::event::{
     GamepadInput, KeyInput, KeyPhase, PlatformInputEvent, PlatformInputPayload, PointerPhase,
 };
-use handles::OptionalHandle;
+use handles::GenerationalHandle;
 use maps::keys::{BindingKey, CompositionPointerId, DeviceKey, InputDeviceId};
 use records::trace::{Deliveries, InputDelivery};
 
-#[derive(Clone, Copy)]
-pub enum OptionalPress {
-    None,
-    Some(BindingKey),
-}
-
 // What an accepted event does to a press. Only an event with a receiver opens one.
-#[derive(Clone, Copy)]
+#[derive(Clone, Copy, PartialEq, Eq)]
 pub enum Effect {
     Opens(BindingKey),
     Ends(BindingKey),
@@ -40,48 +34,41 @@ pub fn pointer_of(device: InputDeviceId, contact: u32) -> CompositionPointerId
 fn pointer_press(device: InputDeviceId, contact: u32) -> BindingKey
     ensures { result ≡ pointer_press device contact }
 {
-    let pointer = pointer_of(device, contact);
-    BindingKey::Pointer(pointer)
+    BindingKey::Pointer(pointer_of(device, contact))
 }
 
 fn key_press(device: InputDeviceId, physical_key: u32) -> BindingKey
     ensures { result ≡ key_press device physical_key }
 {
-    let key = DeviceKey {
+    BindingKey::Key(DeviceKey {
         device,
         physical_key,
-    };
-    BindingKey::Key(key)
+    })
 }
 
-fn press_in(device: InputDeviceId, payload: PlatformInputPayload) -> OptionalPress
+#[tactic(auto, unfolding(crate::specs::Presses::press_in))]
+fn press_in(device: InputDeviceId, payload: PlatformInputPayload) -> Option<BindingKey>
     ensures { result ≡ press_in device payload }
 {
     match payload {
-        PlatformInputPayload::Pointer(pointer) => OptionalPress::Some(pointer_press(
-            device,
-            pointer.contact,
-        )),
-        PlatformInputPayload::Wheel(_) => OptionalPress::None,
-        PlatformInputPayload::Key(key) => OptionalPress::Some(key_press(device, key.physical_key)),
-        PlatformInputPayload::Shortcut(_) => OptionalPress::None,
-        PlatformInputPayload::Text(_) => OptionalPress::None,
-        PlatformInputPayload::Composition(_) => OptionalPress::None,
-        PlatformInputPayload::GamepadSnapshot(_) => OptionalPress::Some(BindingKey::Gamepad(
-            device,
-        )),
-        PlatformInputPayload::FocusChanged(_) => OptionalPress::None,
-        PlatformInputPayload::VisibilityChanged(_) => OptionalPress::None,
-        PlatformInputPayload::DeviceDisconnected => OptionalPress::None,
+        PlatformInputPayload::Pointer(pointer) => Some(pointer_press(device, pointer.contact)),
+        PlatformInputPayload::Key(key) => Some(key_press(device, key.physical_key)),
+        PlatformInputPayload::GamepadSnapshot(_) => Some(BindingKey::Gamepad(device)),
+        PlatformInputPayload::Wheel(_)
+        | PlatformInputPayload::Shortcut(_)
+        | PlatformInputPayload::Text(_)
+        | PlatformInputPayload::Composition(_)
+        | PlatformInputPayload::FocusChanged(_)
+        | PlatformInputPayload::VisibilityChanged(_)
+        | PlatformInputPayload::DeviceDisconnected => None,
     }
 }
 
 // The press that an event concerns.
-pub fn press_of(event: PlatformInputEvent) -> OptionalPress
+pub fn press_of(event: PlatformInputEvent) -> Option<BindingKey>
     ensures { result ≡ press_of event }
 {
-    let payload = event.payload;
-    press_in(event.header.device, payload)
+    press_in(event.header.device, event.payload)
 }
 
 fn pointer_effect(phase: PointerPhase, press: BindingKey) -> Effect
@@ -90,22 +77,16 @@ fn pointer_effect(phase: PointerPhase, press: BindingKey) -> Effect
     match phase {
         PointerPhase::Down => Effect::Opens(press),
         PointerPhase::Move => Effect::Nothing,
-        PointerPhase::Up => Effect::Ends(press),
-        PointerPhase::Cancel => Effect::Ends(press),
+        PointerPhase::Up | PointerPhase::Cancel => Effect::Ends(press),
     }
 }
 
 fn key_effect(key: KeyInput, press: BindingKey) -> Effect
     ensures { result ≡ key_effect key.phase key.repeat press }
 {
-    let phase = key.phase;
-    match phase {
-        KeyPhase::Down => {
-            if key.repeat {
-                return Effect::Nothing;
-            }
-            Effect::Opens(press)
-        }
+    match key.phase {
+        KeyPhase::Down if key.repeat => Effect::Nothing,
+        KeyPhase::Down => Effect::Opens(press),
         KeyPhase::Up => Effect::Ends(press),
     }
 }
@@ -114,31 +95,31 @@ fn gamepad_effect(gamepad: GamepadInput, press: BindingKey) -> Effect
     ensures { result ≡ gamepad_effect gamepad.connected press }
 {
     if gamepad.connected {
-        return Effect::Opens(press);
+        Effect::Opens(press)
+    } else {
+        Effect::Ends(press)
     }
-    Effect::Ends(press)
 }
 
+#[tactic(auto, unfolding(crate::specs::Presses::effect_in))]
 fn effect_in(device: InputDeviceId, payload: PlatformInputPayload) -> Effect
     ensures { result ≡ effect_in device payload }
 {
     match payload {
         PlatformInputPayload::Pointer(pointer) => {
-            let phase = pointer.phase;
-            pointer_effect(phase, pointer_press(device, pointer.contact))
+            pointer_effect(pointer.phase, pointer_press(device, pointer.contact))
         }
-        PlatformInputPayload::Wheel(_) => Effect::Nothing,
         PlatformInputPayload::Key(key) => key_effect(key, key_press(device, key.physical_key)),
-        PlatformInputPayload::Shortcut(_) => Effect::Nothing,
-        PlatformInputPayload::Text(_) => Effect::Nothing,
-        PlatformInputPayload::Composition(_) => Effect::Nothing,
-        PlatformInputPayload::GamepadSnapshot(gamepad) => gamepad_effect(
-            gamepad,
-            BindingKey::Gamepad(device),
-        ),
-        PlatformInputPayload::FocusChanged(_) => Effect::Nothing,
-        PlatformInputPayload::VisibilityChanged(_) => Effect::Nothing,
-        PlatformInputPayload::DeviceDisconnected => Effect::Nothing,
+        PlatformInputPayload::GamepadSnapshot(gamepad) => {
+            gamepad_effect(gamepad, BindingKey::Gamepad(device))
+        }
+        PlatformInputPayload::Wheel(_)
+        | PlatformInputPayload::Shortcut(_)
+        | PlatformInputPayload::Text(_)
+        | PlatformInputPayload::Composition(_)
+        | PlatformInputPayload::FocusChanged(_)
+        | PlatformInputPayload::VisibilityChanged(_)
+        | PlatformInputPayload::DeviceDisconnected => Effect::Nothing,
     }
 }
 
@@ -146,48 +127,31 @@ fn effect_in(device: InputDeviceId, payload: PlatformInputPayload) -> Effect
 pub fn effect_of(event: PlatformInputEvent) -> Effect
     ensures { result ≡ effect_of event }
 {
-    let payload = event.payload;
-    effect_in(event.header.device, payload)
+    effect_in(event.header.device, event.payload)
 }
 
-fn count(deliveries: Deliveries) -> usize
-    ensures { result ≡ length (entries_of state_deliveries deliveries) }
+fn unobserved(deliveries: &[InputDelivery]) -> Option<InputDelivery>
+    ensures { result ≡ first is_unobserved deliveries.now }
 {
-    let n = deliveries.len;
-    if n < 16 {
-        return n;
-    }
-    16
+    deliveries
+        .iter()
+        .copied()
+        .find(|delivery| !delivery.observed)
 }
 
-fn is_unobserved(delivery: InputDelivery) -> bool
-    ensures { result ≡ is_unobserved delivery }
-{
-    !delivery.observed
-}
-
-fn first_unobserved(deliveries: Deliveries) -> OptionalHandle
+fn first_unobserved(deliveries: Deliveries) -> Option<GenerationalHandle>
     ensures { result ≡ delivery_surface (first is_unobserved (entries_of state_deliveries deliveries)) }
 {
-    let n = count(deliveries);
-    let mut i = 0;
-    while i < n {
-        let delivery = deliveries.items[i];
-        if is_unobserved(delivery) {
-            let surface = delivery.surface;
-            return OptionalHandle::Some(surface);
-        }
-        i += 1;
-    }
-    OptionalHandle::None
+    unobserved(deliveries.entries()).map(|delivery| delivery.surface)
 }
 
 // The panel that receives an arbitrated event: its consumer, else the first that it was delivered to unobserved.
-pub fn receiver(consumed_by: OptionalHandle, deliveries: Deliveries) -> OptionalHandle
+#[tactic(auto, unfolding(crate::specs::Presses::receiver_of))]
+pub fn receiver(
+    consumed_by: Option<GenerationalHandle>,
+    deliveries: Deliveries,
+) -> Option<GenerationalHandle>
     ensures { result ≡ receiver_of consumed_by deliveries }
 {
-    match consumed_by {
-        OptionalHandle::None => first_unobserved(deliveries),
-        OptionalHandle::Some(surface) => OptionalHandle::Some(surface),
-    }
+    consumed_by.or_else(|| first_unobserved(deliveries))
 }

@@ -1,14 +1,13 @@
 // What `route` answers.
 ghost use Rattle.std.specs.Prelude.{◌≡◌};
-ghost use Rattle.input_releases.specs.Answers.{no_result, no_report, refused_with};
+ghost use Rattle.input_releases.specs.Answers.{no_result, no_report, routed_outcome, report_of, refused_with};
 
 use composition_arbitration::arbitrate::ArbitrationResult;
-use composition_input::answer::OptionalInputState;
 use composition_state::registry::CompositionRegistry;
-use handles::OptionalHandle;
 use input_events::error::{PlatformInputError, RouterOutcome};
 use input_router::router::PlatformInputRouter;
 use records::trace::Deliveries;
+use records::view::ViewInputState;
 use release_lists::releases::Releases;
 
 // What became of an event; of a refused one nothing did.
@@ -21,45 +20,57 @@ pub enum RouteKind {
 }
 
 // The Rust's report without its copy of the event. The arbitration stands if the event was arbitrated, and is blank
-// else.
+// else: in the answer of `step` an arbitration stands here with no kind, so it is no part of one.
 #[derive(Clone, Copy)]
 pub struct PlatformInputRoutingReport {
     pub kind: RouteKind,
     pub arbitration: ArbitrationResult,
     pub synthesized_releases: Releases,
-    pub view_release: OptionalInputState,
+    pub view_release: Option<ViewInputState>,
     pub composition_revision: u64,
 }
 
 #[derive(Clone, Copy)]
 pub struct Routed {
-    pub outcome: RouterOutcome,
-    pub report: PlatformInputRoutingReport,
+    pub outcome: Result<PlatformInputRoutingReport, PlatformInputError>,
     pub registry: CompositionRegistry,
     pub router: PlatformInputRouter,
+}
+
+impl Routed {
+    // Whether it is accepted, or why it is refused, without the report.
+    pub fn refusal(self) -> RouterOutcome
+        ensures { result ≡ routed_outcome self }
+    {
+        self.outcome.and(Ok(()))
+    }
+
+    // Its report: a blank one where it is refused.
+    pub fn report(self) -> PlatformInputRoutingReport
+        ensures { result ≡ report_of self }
+    {
+        self.outcome.unwrap_or(no_report())
+    }
 }
 
 pub fn no_result() -> ArbitrationResult
     ensures { result ≡ no_result }
 {
-    let deliveries = Deliveries::new();
     ArbitrationResult {
         revision: 0,
-        deliveries,
-        consumed_by: OptionalHandle::None,
+        deliveries: Deliveries::new(),
+        consumed_by: None,
     }
 }
 
 pub fn no_report() -> PlatformInputRoutingReport
     ensures { result ≡ no_report }
 {
-    let arbitration = no_result();
-    let releases = Releases::new();
     PlatformInputRoutingReport {
         kind: RouteKind::Nothing,
-        arbitration,
-        synthesized_releases: releases,
-        view_release: OptionalInputState::None,
+        arbitration: no_result(),
+        synthesized_releases: Releases::new(),
+        view_release: None,
         composition_revision: 0,
     }
 }
@@ -72,10 +83,8 @@ pub fn refused(
 ) -> Routed
     ensures { result ≡ refused_with error registry router }
 {
-    let report = no_report();
     Routed {
-        outcome: RouterOutcome::Refused(error),
-        report,
+        outcome: Err(error),
         registry,
         router,
     }

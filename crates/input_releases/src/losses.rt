@@ -2,32 +2,29 @@
 ghost use Rattle.std.specs.Prelude.{◌≡◌};
 ghost use Rattle.input_releases.specs.Losses.{disconnect_report, routed_disconnect, loss_report, suspended_loss, routed_loss};
 
-use crate::answer::{PlatformInputRoutingReport, RouteKind, Routed, no_result, refused};
-use composition_input::answer::OptionalInputState;
+use crate::answer::{PlatformInputRoutingReport, RouteKind, Routed, no_report, refused};
 use composition_input::captures::release_device_pointer_captures;
 use composition_input::focus::suspend_view_input;
 use composition_state::registry::CompositionRegistry;
 use handles::GenerationalHandle;
-use input_events::error::{PlatformInputError, RouterOutcome};
 use input_router::router::PlatformInputRouter;
 use maps::keys::InputDeviceId;
-use records::error::Outcome;
+use records::view::ViewInputState;
 use release_lists::releases::{Releases, add_captures, add_view_captures};
 
 fn disconnect_report(releases: Releases, revision: u64) -> PlatformInputRoutingReport
     ensures { result ≡ disconnect_report releases revision }
 {
-    let arbitration = no_result();
     PlatformInputRoutingReport {
         kind: RouteKind::Disconnected,
-        arbitration,
         synthesized_releases: releases,
-        view_release: OptionalInputState::None,
         composition_revision: revision,
+        ..no_report()
     }
 }
 
 // A disconnect that the registry refuses has dropped its presses unlisted, and keeps the device's sequence.
+#[tactic(auto, unfolding(crate::specs::Losses::routed_disconnect))]
 pub fn route_disconnect(
     registry: CompositionRegistry,
     router: PlatformInputRouter,
@@ -37,24 +34,18 @@ pub fn route_disconnect(
 {
     let presses = router.device_presses(device);
     let released = release_device_pointer_captures(registry, device.value, device.generation);
-    let after = released.registry;
-    let outcome = released.outcome;
-    match outcome {
-        Outcome::Accepted => {
-            let report = disconnect_report(
-                add_captures(presses, released.released),
-                after.revision,
-            );
-            Routed {
-                outcome: RouterOutcome::Accepted,
-                report,
-                registry: after,
-                router: router.without_device(device),
-            }
-        }
-        Outcome::Refused(error) => refused(
-            PlatformInputError::Composition(error),
-            after,
+    match released.outcome {
+        Ok(captures) => Routed {
+            outcome: Ok(disconnect_report(
+                add_captures(presses, captures),
+                released.registry.revision,
+            )),
+            registry: released.registry,
+            router: router.without_device(device),
+        },
+        Err(error) => refused(
+            error.into(),
+            released.registry,
             router.without_device_presses(device),
         ),
     }
@@ -62,22 +53,22 @@ pub fn route_disconnect(
 
 fn loss_report(
     releases: Releases,
-    view_release: OptionalInputState,
+    state: ViewInputState,
     revision: u64,
 ) -> PlatformInputRoutingReport
-    ensures { result ≡ loss_report releases view_release revision }
+    ensures { result ≡ loss_report releases state revision }
 {
-    let arbitration = no_result();
     PlatformInputRoutingReport {
         kind: RouteKind::ViewReleased,
-        arbitration,
         synthesized_releases: releases,
-        view_release,
+        view_release: Some(state),
         composition_revision: revision,
+        ..no_report()
     }
 }
 
 // The view's input is suspended once its presses are dropped.
+#[tactic(auto, unfolding(crate::specs::Losses::suspended_loss))]
 fn suspend_lost(
     registry: CompositionRegistry,
     router: PlatformInputRouter,
@@ -87,24 +78,18 @@ fn suspend_lost(
     ensures { result ≡ suspended_loss registry router view releases }
 {
     let suspended = suspend_view_input(registry, view, registry.revision);
-    let after = suspended.registry;
-    let view_release = suspended.released;
-    let outcome = suspended.outcome;
-    match outcome {
-        Outcome::Accepted => {
-            let report = loss_report(releases, view_release, after.revision);
-            Routed {
-                outcome: RouterOutcome::Accepted,
-                report,
-                registry: after,
-                router,
-            }
-        }
-        Outcome::Refused(error) => refused(PlatformInputError::Composition(error), after, router),
+    match suspended.outcome {
+        Ok(state) => Routed {
+            outcome: Ok(loss_report(releases, state, suspended.registry.revision)),
+            registry: suspended.registry,
+            router,
+        },
+        Err(error) => refused(error.into(), suspended.registry, router),
     }
 }
 
 // A loss that meets a closed owner has dropped the kinds before it.
+#[tactic(auto, unfolding(crate::specs::Losses::routed_loss))]
 pub fn route_loss(
     registry: CompositionRegistry,
     router: PlatformInputRouter,
@@ -112,19 +97,15 @@ pub fn route_loss(
 ) -> Routed
     ensures { result ≡ routed_loss registry router view }
 {
-    let record = registry.views.record(view);
-    let captures = record.pointer_captures;
+    let captures = registry.views.record(view).pointer_captures;
     let released = router.release_view(registry.surfaces, view);
-    let presses = released.presses;
-    let left = released.router;
-    let outcome = released.outcome;
-    match outcome {
-        Outcome::Accepted => suspend_lost(
+    match released.outcome {
+        Ok(presses) => suspend_lost(
             registry,
-            left,
+            released.router,
             view,
             add_view_captures(presses, captures),
         ),
-        Outcome::Refused(error) => refused(PlatformInputError::Composition(error), registry, left),
+        Err(error) => refused(error.into(), registry, released.router),
     }
 }

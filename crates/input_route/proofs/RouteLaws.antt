@@ -1,23 +1,21 @@
 -- What an arbitrated event answers, by what is decided of it; and what `routed` answers, by the checks and the payload.
+use Rattle.input_events.specs.RouterErrors.{RouterOutcome}
+use Rattle.std.specs.Prelude.{Result, Ok, Err}
+use Rattle.records.specs.Errors.{refusal_if, Outcome}
+use Rattle.std.specs.Result.{result_and}
 use mathlib.Core.Path.{◌≡◌, refl, sym, ap, ◌∙◌}
 use mathlib.Core.Bool.{Bool, true, false, not, ◌&&◌}
 use Rattle.records.specs.declared.error.CompositionError.{CompositionError}
-use Rattle.records.specs.declared.error.Outcome.{Outcome}
-use Rattle.records.specs.declared.error.Outcome.TheVariants as composition
 use Rattle.composition_state.specs.declared.registry.CompositionRegistry.{CompositionRegistry}
 use Rattle.records.specs.declared.trace.CompositionTrace.{CompositionTrace}
 use Rattle.composition_state.specs.Damage.{is_sound, damage_refusal}
-use Rattle.composition_arbitration.specs.declared.arbitrate.Decision.{Decision}
 use Rattle.composition_arbitration.specs.Decisions.{decided, result_of, kept_in}
 use Rattle.composition_arbitration.proofs.DecisionLaws as decisions
 use Rattle.input_events.specs.declared.error.PlatformInputError.{PlatformInputError}
 use Rattle.input_events.specs.declared.error.PlatformInputError.TheVariants as error
-use Rattle.input_events.specs.declared.error.RouterOutcome.{RouterOutcome}
-use Rattle.input_events.specs.declared.error.RouterOutcome.TheVariants.{Accepted, Refused}
 use Rattle.input_events.specs.declared.event.PlatformInputEvent.{PlatformInputEvent}
 use Rattle.input_events.specs.ArbitrationEvents.{arbitration_event, is_loss, is_disconnect}
 use Rattle.input_events.specs.Presses.{effect_of, receiver_of}
-use Rattle.input_events.specs.RouterErrors.{then_router_refusal, router_refusal_if}
 use Rattle.input_router.specs.declared.router.PlatformInputRouter.{PlatformInputRouter}
 use Rattle.input_releases.specs.declared.answer.Routed.{Routed}
 use Rattle.input_releases.specs.Answers.{refused_with}
@@ -26,20 +24,19 @@ use Rattle.input_route.specs.Checks.{route_refusal, refusal_with}
 use Rattle.input_route.specs.Route.{held_for, hits_for, tracked, arbitrated_report, routed_arbitration, routed_payload, recorded_event, routed}
 
 -- checks that pass have found the registry sound
-sound_first : (sound other : Bool) (rest : RouterOutcome) → then_router_refusal (router_refusal_if (not (sound && other)) error.Damaged) rest ≡ Accepted → sound ≡ true
+sound_first : (sound other : Bool) (rest : RouterOutcome) → result_and (refusal_if (not (sound && other)) error.Damaged) rest ≡ Ok tt → sound ≡ true
 sound_first true other rest h = refl
 sound_first false other rest h = let z : true ≡ false = cc in sym z
 
 module _ (r : CompositionRegistry) (t : PlatformInputRouter) (e : PlatformInputEvent) where
   -- ---- an event that is arbitrated
   -- the decision on it, in a sound registry
-  abbrev pub decision : Decision
-  decision = decided composition.Accepted r e.header.view (arbitration_event e (held_for t e)) (hits_for r e)
+  abbrev pub decision : Result CompositionTrace CompositionError
+  decision = decided (Ok tt) r e.header.view (arbitration_event e (held_for t e)) (hits_for r e)
 
   abbrev pub arbitrated_with : CompositionTrace → Routed
   arbitrated_with d = record {
-    outcome = Accepted;
-    report = arbitrated_report (result_of d);
+    outcome = Ok (arbitrated_report (result_of d));
     registry = kept_in r d;
     router = tracked t (effect_of e) (receiver_of d.consumed_by d.deliveries);
   }
@@ -49,16 +46,13 @@ module _ (r : CompositionRegistry) (t : PlatformInputRouter) (e : PlatformInputE
     same_decision : decided (damage_refusal r) r e.header.view (arbitration_event e (held_for t e)) (hits_for r e) ≡ decision
     same_decision = rw whole
 
-    outcome_is : (o : Outcome) → decision.outcome ≡ o → (decided (damage_refusal r) r e.header.view (arbitration_event e (held_for t e)) (hits_for r e)).outcome ≡ o
-    outcome_is o h = ap (λ (d : Decision). d.outcome) same_decision ∙ h
-
-    pub dropped : (x : CompositionError) → decision.outcome ≡ composition.Refused x → routed_arbitration r t e ≡ refused_with (error.Composition x) r t
+    pub dropped : (x : CompositionError) → decision ≡ Err x → routed_arbitration r t e ≡ refused_with (error.Composition x) r t
     unfolding routed_arbitration
-    dropped x h = rw (decisions.refused r _ _ _ x (outcome_is _ h))
+    dropped x h = rw (decisions.refused r _ _ _ x (same_decision ∙ h))
 
-    pub arbitrated : decision.outcome ≡ composition.Accepted → routed_arbitration r t e ≡ arbitrated_with decision.trace
+    pub arbitrated : (d : CompositionTrace) → decision ≡ Ok d → routed_arbitration r t e ≡ arbitrated_with d
     unfolding routed_arbitration
-    arbitrated h = rw (decisions.accepted r _ _ _ (outcome_is _ h), same_decision)
+    arbitrated d h = rw (decisions.accepted r _ _ _ d (same_decision ∙ h))
 
   -- ---- any event
   -- the checks, from what the damage test says
@@ -69,11 +63,11 @@ module _ (r : CompositionRegistry) (t : PlatformInputRouter) (e : PlatformInputE
   unfolding route_refusal
   same_checks = refl
 
-  pub refused : (x : PlatformInputError) → checked ≡ Refused x → routed r t e ≡ refused_with x r t
+  pub refused : (x : PlatformInputError) → checked ≡ Err x → routed r t e ≡ refused_with x r t
   unfolding routed
   refused x h = rw (sym same_checks, h)
 
-  module _ (passed : checked ≡ Accepted) where
+  module _ (passed : checked ≡ Ok tt) where
     pub sound : is_sound r ≡ true
     sound = sound_first (is_sound r) _ _ passed
 

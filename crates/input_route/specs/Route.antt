@@ -1,26 +1,20 @@
 -- RULES.md, Route, Presses: what is recorded, and then the disconnect, the view's loss or the arbitration of an event.
-use Rattle.std.specs.Prelude.{cond, []}
+use Rattle.maps.specs.declared.keys.BindingKey.{BindingKey}
+use Rattle.input_events.specs.RouterErrors.{RouterOutcome}
+use Rattle.records.specs.declared.error.CompositionError.{CompositionError}
+use Rattle.handles.specs.declared.GenerationalHandle.{GenerationalHandle}
+use Rattle.std.specs.Prelude.{cond, [], Option, None, Some, Result, Ok, Err}
 use Rattle.lists.specs.Tables.{packed}
-use Rattle.handles.specs.declared.OptionalHandle.{OptionalHandle}
-use Rattle.handles.specs.declared.OptionalHandle.TheVariants as O
-use Rattle.records.specs.declared.error.Outcome.{Outcome}
-use Rattle.records.specs.declared.error.Outcome.TheVariants as composition
 use Rattle.composition_state.specs.declared.registry.CompositionRegistry.{CompositionRegistry}
-use Rattle.records.specs.declared.trace.Hits.{Hits}
-use Rattle.records.specs.Traces.{hits}
-use Rattle.composition_input.specs.declared.answer.OptionalInputState.TheVariants as S
+use Rattle.records.specs.Traces.{Hits, hits}
 use Rattle.composition_hits.specs.HitTest.{view_hits}
-use Rattle.composition_arbitration.specs.declared.arbitrate.Arbitrated.{Arbitrated}
+use Rattle.composition_arbitration.specs.Arbitration.{Arbitrated}
 use Rattle.composition_arbitration.specs.declared.arbitrate.ArbitrationResult.{ArbitrationResult}
 use Rattle.composition_arbitration.specs.Arbitration.{arbitrated}
 use Rattle.input_events.specs.declared.error.PlatformInputError.TheVariants as error
-use Rattle.input_events.specs.declared.error.RouterOutcome.{RouterOutcome}
-use Rattle.input_events.specs.declared.error.RouterOutcome.TheVariants.{Accepted, Refused}
 use Rattle.input_events.specs.declared.event.PlatformInputEvent.{PlatformInputEvent}
 use Rattle.input_events.specs.declared.presses.Effect.{Effect}
 use Rattle.input_events.specs.declared.presses.Effect.TheVariants.{Opens, Ends, Nothing}
-use Rattle.input_events.specs.declared.presses.OptionalPress.{OptionalPress}
-use Rattle.input_events.specs.declared.presses.OptionalPress.TheVariants as press
 use Rattle.input_events.specs.ArbitrationEvents.{arbitration_event, needs_hits, point_of, is_loss, is_disconnect}
 use Rattle.input_events.specs.Presses.{press_of, effect_of, receiver_of}
 use Rattle.input_router.specs.declared.router.PlatformInputRouter.{PlatformInputRouter}
@@ -35,11 +29,11 @@ use Rattle.input_route.specs.Checks.{route_refusal}
 use Rattle.input_releases.specs.Losses.{routed_disconnect, routed_loss}
 
 -- the panel that holds the press of an event
-abbrev pub held_at : PlatformInputRouter → OptionalPress → OptionalHandle
-held_at t press.None = O.None
-held_at t (press.Some key) = held_by t key
+abbrev pub held_at : PlatformInputRouter → Option BindingKey → Option GenerationalHandle
+held_at t None = None
+held_at t (Some key) = held_by t key
 
-abbrev pub held_for : PlatformInputRouter → PlatformInputEvent → OptionalHandle
+abbrev pub held_for : PlatformInputRouter → PlatformInputEvent → Option GenerationalHandle
 held_for t e = held_at t (press_of e)
 
 -- the hits at the point of an event that is aimed by it
@@ -50,9 +44,9 @@ hits_for r e =
 -- Presses: "with a receiver opens the press or moves it to the new receiver, with no release listed. Without a receiver
 -- an older press is unchanged.
 -- Up, Cancel or a disconnected snapshot ends it, even if its panel was not delivered to."
-abbrev pub tracked : PlatformInputRouter → Effect → OptionalHandle → PlatformInputRouter
-tracked t (Opens key) O.None = t
-tracked t (Opens key) (O.Some surface) = opened t key surface
+abbrev pub tracked : PlatformInputRouter → Effect → Option GenerationalHandle → PlatformInputRouter
+tracked t (Opens key) None = t
+tracked t (Opens key) (Some surface) = opened t key surface
 tracked t (Ends key) receiver = ended t key
 tracked t Nothing receiver = t
 
@@ -63,19 +57,19 @@ arbitrated_report a =
       kind = kind.Arbitrated;
       arbitration = a;
       synthesized_releases = packed releases [];
-      view_release = S.None;
+      view_release = None;
       composition_revision = a.revision;
     }
 
 -- an accepted arbitration tracks the press; a refused one leaves the presses
-abbrev pub arbitrated_after : Arbitrated → PlatformInputRouter → PlatformInputEvent → Outcome → Routed
-arbitrated_after a t e composition.Accepted = record {
-  outcome = Accepted;
-  report = arbitrated_report a.result;
+abbrev pub arbitrated_after : Arbitrated → PlatformInputRouter → PlatformInputEvent
+    → Result ArbitrationResult CompositionError → Routed
+arbitrated_after a t e (Ok x) = record {
+  outcome = Ok (arbitrated_report x);
   registry = a.registry;
-  router = tracked t (effect_of e) (receiver_of a.result.consumed_by a.result.deliveries);
+  router = tracked t (effect_of e) (receiver_of x.consumed_by x.deliveries);
 }
-arbitrated_after a t e (composition.Refused x) = refused_with (error.Composition x) a.registry t
+arbitrated_after a t e (Err x) = refused_with (error.Composition x) a.registry t
 
 -- the event is arbitrated in its view, aimed by the press's panel or the hits
 unfoldable pub routed_arbitration : CompositionRegistry → PlatformInputRouter → PlatformInputEvent → Routed
@@ -95,8 +89,8 @@ abbrev pub recorded_event : PlatformInputRouter → PlatformInputEvent → Platf
 recorded_event t e = recorded t e.header.device e.header.sequence e.header.timestamp_micros
 
 abbrev pub routed_after : CompositionRegistry → PlatformInputRouter → PlatformInputEvent → RouterOutcome → Routed
-routed_after r t e Accepted = routed_payload r (recorded_event t e) e
-routed_after r t e (Refused x) = refused_with x r t
+routed_after r t e (Ok _) = routed_payload r (recorded_event t e) e
+routed_after r t e (Err x) = refused_with x r t
 
 -- an event that the checks refuse writes nothing; any other is recorded before its work
 unfoldable pub routed : CompositionRegistry → PlatformInputRouter → PlatformInputEvent → Routed

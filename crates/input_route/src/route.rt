@@ -7,56 +7,47 @@ use crate::checks::route_refusal;
 use composition_arbitration::arbitrate::{ArbitrationResult, decide, result_of, with_traces_at};
 use composition_arbitration::trace::push_trace;
 use composition_hits::table::view_hits;
-use composition_input::answer::OptionalInputState;
 use composition_state::registry::CompositionRegistry;
-use handles::OptionalHandle;
+use handles::GenerationalHandle;
 use input_events::arbitration_event::{
     arbitration_event, is_disconnect, is_loss, needs_hits, point_of,
 };
-use input_events::error::{PlatformInputError, RouterOutcome};
 use input_events::event::PlatformInputEvent;
-use input_events::presses::{Effect, OptionalPress, effect_of, press_of, receiver};
-use input_releases::answer::{PlatformInputRoutingReport, RouteKind, Routed, refused};
+use input_events::presses::{Effect, effect_of, press_of, receiver};
+use input_releases::answer::{PlatformInputRoutingReport, RouteKind, Routed, no_report, refused};
 use input_releases::losses::{route_disconnect, route_loss};
 use input_router::router::PlatformInputRouter;
-use records::error::Outcome;
 use records::trace::Hits;
-use release_lists::releases::Releases;
 
 // The panel that holds the press of an event.
-fn held_for(router: PlatformInputRouter, event: PlatformInputEvent) -> OptionalHandle
+fn held_for(router: PlatformInputRouter, event: PlatformInputEvent) -> Option<GenerationalHandle>
     ensures { result ≡ held_for router event }
 {
-    match press_of(event) {
-        OptionalPress::None => OptionalHandle::None,
-        OptionalPress::Some(key) => router.holder(key),
-    }
+    router.holder(press_of(event)?)
 }
 
 // The hits of an event that is aimed by its point.
+#[tactic(auto, unfolding(crate::specs::Route::hits_for))]
 fn hits_for(registry: CompositionRegistry, event: PlatformInputEvent) -> Hits
     ensures { result ≡ hits_for registry event }
 {
-    let payload = event.payload;
-    if needs_hits(payload) {
-        return view_hits(registry, event.header.view, point_of(payload));
+    if needs_hits(event.payload) {
+        view_hits(registry, event.header.view, point_of(event.payload))
+    } else {
+        Hits::new()
     }
-    Hits::new()
 }
 
 // The presses once an event is arbitrated. Without a receiver an older press is unchanged.
 fn track(
     router: PlatformInputRouter,
     effect: Effect,
-    receiver: OptionalHandle,
+    receiver: Option<GenerationalHandle>,
 ) -> PlatformInputRouter
     ensures { result ≡ tracked router effect receiver }
 {
     match effect {
-        Effect::Opens(key) => match receiver {
-            OptionalHandle::None => router,
-            OptionalHandle::Some(surface) => router.opened(key, surface),
-        },
+        Effect::Opens(key) => { receiver.map_or(router, |surface| router.opened(key, surface)) }
         Effect::Ends(key) => router.ended(key),
         Effect::Nothing => router,
     }
@@ -65,13 +56,11 @@ fn track(
 fn arbitrated_report(res: ArbitrationResult) -> PlatformInputRoutingReport
     ensures { result ≡ arbitrated_report res }
 {
-    let releases = Releases::new();
     PlatformInputRoutingReport {
         kind: RouteKind::Arbitrated,
         arbitration: res,
-        synthesized_releases: releases,
-        view_release: OptionalInputState::None,
         composition_revision: res.revision,
+        ..no_report()
     }
 }
 
@@ -87,6 +76,7 @@ fn record_event(router: PlatformInputRouter, event: PlatformInputEvent) -> Platf
 
 // An event that is arbitrated, in a registry that has passed the damage test: who gets it, the trace of it, and the
 // presses after it. Nothing but the last step makes another registry: each would be a copy.
+#[tactic(auto, unfolding(crate::specs::Route::routed_arbitration))]
 fn route_arbitrated(
     registry: CompositionRegistry,
     router: PlatformInputRouter,
@@ -96,37 +86,31 @@ fn route_arbitrated(
     ensures { result ≡ routed_arbitration registry router event }
 {
     let asked = arbitration_event(event, held_for(router, event));
-    let decision = decide(
-        Outcome::Accepted,
+    let trace = match decide(
+        Ok(()),
         registry,
         event.header.view,
         asked,
         hits_for(registry, event),
-    );
-    let trace = decision.trace;
-    let outcome = decision.outcome;
-    if let Outcome::Refused(error) = outcome {
-        return refused(PlatformInputError::Composition(error), registry, router);
-    }
-    let consumer = trace.consumed_by;
+    ) {
+        Ok(trace) => trace,
+        Err(error) => return refused(error.into(), registry, router),
+    };
     let traces = push_trace(registry.traces, registry.limits.max_trace_entries, trace);
-    let tracked = track(
-        router,
-        effect_of(event),
-        receiver(consumer, trace.deliveries),
-    );
-    let report = arbitrated_report(result_of(trace));
-    let after = with_traces_at(registry, traces, trace.revision);
     Routed {
-        outcome: RouterOutcome::Accepted,
-        report,
-        registry: after,
-        router: tracked,
+        outcome: Ok(arbitrated_report(result_of(trace))),
+        registry: with_traces_at(registry, traces, trace.revision),
+        router: track(
+            router,
+            effect_of(event),
+            receiver(trace.consumed_by, trace.deliveries),
+        ),
     }
 }
 
 // The checks, what is recorded, and one of three: a disconnect, a view's loss or an arbitrated event.
 // Sequence and time stay recorded once the checks have passed, whatever the work then refuses.
+#[tactic(auto, unfolding(crate::specs::Route::routed))]
 pub fn route(
     registry: CompositionRegistry,
     router: PlatformInputRouter,
@@ -134,17 +118,15 @@ pub fn route(
 ) -> Routed
     ensures { result ≡ routed registry router event }
 {
-    let payload = event.payload;
-    let sound = registry.is_sound();
-    if let RouterOutcome::Refused(error) = route_refusal(sound, registry.views, router, event) {
+    if let Err(error) = route_refusal(registry.is_sound(), registry.views, router, event) {
         return refused(error, registry, router);
     }
     let recorded = record_event(router, event);
-    if is_disconnect(payload) {
-        return route_disconnect(registry, recorded, event.header.device);
+    if is_disconnect(event.payload) {
+        route_disconnect(registry, recorded, event.header.device)
+    } else if is_loss(event.payload) {
+        route_loss(registry, recorded, event.header.view)
+    } else {
+        route_arbitrated(registry, recorded, event)
     }
-    if is_loss(payload) {
-        return route_loss(registry, recorded, event.header.view);
-    }
-    route_arbitrated(registry, recorded, event)
 }

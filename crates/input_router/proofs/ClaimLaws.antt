@@ -1,9 +1,13 @@
 -- The claims about the router: soundness by its parts, releases by what a test keeps, and the release of all by the laws of panel order.
+use Rattle.std.specs.Prelude.{Option, None, Some, Ok, Err, is_ok}
+use Rattle.std.specs.Result.{result_and}
+use Rattle.records.specs.Errors.{refusal_if}
+use Rattle.input_events.specs.declared.error.PlatformInputError.TheVariants as error
 use Prim.Native.Nat.{ℕ, ◌≤◌, ◌<◌}
 use mathlib.Core.Path.{◌≡◌, refl, sym, ap, ◌∙◌, subst}
+use Rattle.std.proofs.Common.{true≢false}
 use mathlib.Core.Bool.{Bool, true, false, cond, not, ◌||◌}
 use mathlib.Core.List.{List, [], ◌∷◌}
-use mathlib.Core.Option.{Option, none, some}
 use native.Mathlib.Omega.{arith}
 use borrow.Author.Tests.{le-ltb, ltb-true, ne_eqb}
 use lib.Dec.{ltb, eqb}
@@ -15,7 +19,6 @@ use Rattle.lists.proofs.RisingLaws.{Over, Sorted, rising_sorted}
 use Rattle.lists.proofs.TableLaws.{entries_packed}
 use Rattle.handles.specs.Handles.{same_handle}
 use Rattle.handles.specs.declared.GenerationalHandle.{GenerationalHandle}
-use Rattle.handles.specs.declared.OptionalHandle.TheVariants as O
 use Rattle.handles.proofs.HandleLaws.{handles}
 use Rattle.maps.specs.Keys.{key_lt, key_same, binding_key, device_key}
 use Rattle.maps.specs.MapTables.{accepts, inserted, retained}
@@ -27,27 +30,25 @@ use Rattle.maps.specs.declared.bindings.Binding.{Binding}
 use Rattle.maps.specs.declared.sequences.DeviceSequence.{DeviceSequence}
 use Rattle.maps.proofs.MapTableLaws as maps
 use Rattle.records.specs.declared.error.CompositionError.{CompositionError}
-use Rattle.records.specs.declared.error.Outcome.TheVariants.{Accepted, Refused}
-use Rattle.records.specs.declared.surface.SurfaceTable.{SurfaceTable}
-use Rattle.input_router.specs.declared.order.Order.TheVariants as order
+use Rattle.records.specs.Surfaces.{SurfaceTable}
 use Rattle.input_router.specs.declared.router.PlatformInputRouter.{PlatformInputRouter}
-use Rattle.input_router.specs.declared.view_releases.OptionalBinding.TheVariants.{None, Some}
-use Rattle.input_router.specs.Router.{is_started, start_outcome, empty_router, started, with_bindings, with_sequences, with_timestamp, presses_of}
+use Rattle.input_router.specs.Router.{start_outcome, empty_router, started, with_bindings, with_sequences, with_timestamp, presses_of}
 use Rattle.input_router.specs.Damage.{is_router_sound}
 use Rattle.input_router.specs.Order.{sequence_entry, has_place, last_of, is_old, order_of, recorded}
 use Rattle.input_router.specs.Presses.{press, held_by, has_room, opened, ended}
 use Rattle.release_lists.specs.Releases.{releases, is_on, by_panel}
-use Rattle.input_router.specs.Releases.{is_of_device, release_surface, release_all, without_device_presses, without_device}
-use Rattle.input_router.specs.ViewReleases.{kind_of, is_closed, closed_binding, first_closed, closed_refusal, is_of_view, is_taken, release_view}
+use Rattle.composition_state.proofs.SettleLaws.{without_value}
+use Rattle.input_router.specs.Releases.{releases_of, is_of_device, release_surface, release_all, without_device_presses, without_device}
+use Rattle.input_router.specs.ViewReleases.{kind_of, is_closed, first_closed, closed_refusal, is_of_view, is_taken, view_outcome, listed_presses, release_view}
 use Rattle.input_router.specs.Claims.{RouterClaims}
 use Rattle.lists.proofs.KeepLaws.{keep_in, keep_apart}
 use Rattle.release_lists.proofs.ReleaseLaws.{by_panel_length, by_panel_keeps, by_panel_ordered, presses_first, captures_listed_lem}
 use Rattle.input_router.proofs.OrderLaws.{place_is}
 use Rattle.input_router.proofs.SoundLaws as sound
 
-start_sound : (n : ℕ) → is_router_sound (started n).router ≡ is_started (start_outcome n)
+start_sound : (n : ℕ) → is_router_sound (started n).router ≡ is_ok (start_outcome n)
 unfolding is_router_sound
-start_sound n = by_test (is_started (start_outcome n))
+start_sound n = by_test (is_ok (start_outcome n))
     (λ t. rw t (sound.whole (empty_router n) (sound.empty_sound n t)))
     (λ t. rw t)
 
@@ -88,18 +89,20 @@ unfolding release_view
 view_sound_lem r t v h = kept_sound (λ e. not (is_taken t v (first_closed t (presses_of r)) e)) r h
 
 -- ---- an event in order is recorded
-never : (a b : Bool) → cond a order.InvalidSequence (cond b order.InvalidTimestamp order.PortLimit) ≡ order.InOrder → true ≡ false
-never true b q = cc
-never false true q = cc
-never false false q = cc
+-- where the device has no place the order refuses
+never : (a b c : Bool) → not c ≡ true → result_and (refusal_if a error.InvalidSequence) (result_and (refusal_if b error.InvalidTimestamp) (refusal_if (not c) error.PortLimit)) ≡ Ok tt → true ≡ false
+never true b c h q = cc
+never false true c h q = cc
+never false false true h q = absurd (true≢false (sym h))
+never false false false h q = cc
 
-in_order : (r : PlatformInputRouter) (d : InputDeviceId) (n time : ℕ) → order_of r d n time ≡ order.InOrder
+in_order : (r : PlatformInputRouter) (d : InputDeviceId) (n time : ℕ) → order_of r d n time ≡ Ok tt
     → recorded r d n time ≡ with_timestamp time (with_sequences (inserted sequences sequence_key (sequence_entry d n) r.device_sequences) r)
 in_order r d n time q = by_test (has_place r d)
     (λ t. rw t)
-    (λ t. clash refl (never (eqb n 0 || is_old (last_of r d) n) (ltb time r.last_timestamp_micros) (rw t at q)))
+    (λ t. clash refl (never (eqb n 0 || is_old (last_of r d) n) (ltb time r.last_timestamp_micros) (has_place r d) (ap not t) q))
 
-opened_held : (r : PlatformInputRouter) (k : BindingKey) (h : GenerationalHandle) → is_router_sound r ≡ true → has_room r k ≡ true → held_by (opened r k h) k ≡ O.Some h
+opened_held : (r : PlatformInputRouter) (k : BindingKey) (h : GenerationalHandle) → is_router_sound r ≡ true → has_room r k ≡ true → held_by (opened r k h) k ≡ Some h
 opened_held r k h s room =
     rw (sound.opened_accepted r k h (sound.parts r s) room, entries_packed bindings _)
     (ap surface_of ((maps.claims key_of_binding).find_inserted (press k h) (presses_of r)))
@@ -110,7 +113,7 @@ opened_others r j k h n = by_test (accepts bindings key_of_binding (press k h) r
     (λ a. rw a)
 
 -- ---- a press that is ended
-ended_held : (r : PlatformInputRouter) (k : BindingKey) → held_by (ended r k) k ≡ O.None
+ended_held : (r : PlatformInputRouter) (k : BindingKey) → held_by (ended r k) k ≡ None
 ended_held r k = rw (entries_packed bindings _) (ap surface_of ((maps.claims key_of_binding).find_removed (binding_key k) (presses_of r)))
 
 ended_others : (r : PlatformInputRouter) (j k : BindingKey) → key_same (binding_key j) (binding_key k) ≡ false → held_by (ended r k) j ≡ held_by r j
@@ -132,38 +135,46 @@ all_none_left : (r : PlatformInputRouter) → is_router_sound r ≡ true → pre
 unfolding release_all
 all_none_left r s = rw s (entries_packed bindings [])
 
-all_listed_are : (r : PlatformInputRouter) → is_router_sound r ≡ true → entries_of releases (release_all r).releases ≡ by_panel (presses_of r)
+all_listed_are : (r : PlatformInputRouter) → is_router_sound r ≡ true → entries_of releases (releases_of (release_all r)) ≡ by_panel (presses_of r)
 unfolding release_all
 all_listed_are r s = rw s (entries_packed releases (by_panel (presses_of r)))
 
-panel_listed_are : (r : PlatformInputRouter) (h : GenerationalHandle) → is_router_sound r ≡ true → entries_of releases (release_surface r h).releases ≡ keep (is_on h) (presses_of r)
+panel_listed_are : (r : PlatformInputRouter) (h : GenerationalHandle) → is_router_sound r ≡ true → entries_of releases (releases_of (release_surface r h)) ≡ keep (is_on h) (presses_of r)
 unfolding release_surface
 panel_listed_are r h s = rw s (entries_packed releases (keep (is_on h) (presses_of r)))
 
 -- ---- the release of a view
-pub first_passes : (p : Binding → Bool) (l : List Binding) (e : Binding) → first p l ≡ some e → p e ≡ true
+pub first_passes : (p : Binding → Bool) (l : List Binding) (e : Binding) → first p l ≡ Some e → p e ≡ true
 first_passes p [] e q = let z : true ≡ false = cc in clash (sym z) refl
 first_passes p (f ∷ l) e q = by_test (p f)
-    (λ t. let is : some f ≡ some e = rw t at q in let same : f ≡ e = cc in rw (sym same) t)
+    (λ t. let is : Some f ≡ Some e = rw t at q in let same : f ≡ e = cc in rw (sym same) t)
     (λ t. first_passes p l e (rw t at q))
 
 -- an accepted release met no closed panel
-none_closed : (t : SurfaceTable) (l : List Binding) → closed_refusal t (first_closed t l) ≡ Accepted → first_closed t l ≡ None
+none_closed : (t : SurfaceTable) (l : List Binding) → closed_refusal t (first_closed t l) ≡ Ok tt → first_closed t l ≡ None
 none_closed t l q = go (first (is_closed t) l) refl q
   where
-    go : (o : Option Binding) → first (is_closed t) l ≡ o → closed_refusal t (closed_binding o) ≡ Accepted → closed_binding o ≡ None
-    go none p h = refl
-    go (some e) p h = clash (first_passes (is_closed t) l e p) (rw h)
+    go : (o : Option Binding) → first (is_closed t) l ≡ o → closed_refusal t o ≡ Ok tt → o ≡ None
+    go None p h = refl
+    go (Some e) p h = clash (first_passes (is_closed t) l e p) (rw h)
 
-view_accepted : (r : PlatformInputRouter) (t : SurfaceTable) (v : GenerationalHandle) → (release_view r t v).outcome ≡ Accepted
-    → ((release_view r t v).presses ≡ retained bindings (is_of_view t v) r.bindings)
+-- the presses that a release lists do not alter whether it is accepted
+stopped : (r : PlatformInputRouter) (t : SurfaceTable) (v : GenerationalHandle)
+    → view_outcome (release_view r t v) ≡ closed_refusal t (first_closed t (presses_of r))
+unfolding release_view
+stopped r t v =
+    let stop = first_closed t (presses_of r) in
+    without_value (packed bindings (keep (is_taken t v stop) (presses_of r))) (closed_refusal t stop)
+
+view_accepted : (r : PlatformInputRouter) (t : SurfaceTable) (v : GenerationalHandle) → view_outcome (release_view r t v) ≡ Ok tt
+    → (listed_presses (release_view r t v) ≡ retained bindings (is_of_view t v) r.bindings)
     × ((release_view r t v).router ≡ with_bindings (retained bindings (λ e. not (is_of_view t v e)) r.bindings) r)
 unfolding release_view
-view_accepted r t v q = let n = none_closed t (presses_of r) q in (rw n, rw n)
+view_accepted r t v q = let n = none_closed t (presses_of r) (sym (stopped r t v) ∙ q) in (rw n, rw n)
 
-view_refused : (r : PlatformInputRouter) (t : SurfaceTable) (v : GenerationalHandle) (e : CompositionError) → (release_view r t v).outcome ≡ Refused e → (release_view r t v).presses ≡ packed bindings []
+view_refused : (r : PlatformInputRouter) (t : SurfaceTable) (v : GenerationalHandle) (e : CompositionError) → view_outcome (release_view r t v) ≡ Err e → listed_presses (release_view r t v) ≡ packed bindings []
 unfolding release_view
-view_refused r t v e q = rw q
+view_refused r t v e q = rw (sym (stopped r t v) ∙ q)
 
 -- in key order a later press is of no lesser kind
 kinds_rise : (e f : Binding) → key_lt (key_of_binding e) (key_of_binding f) ≡ true → ltb (kind_of f) (kind_of e) ≡ false
@@ -184,12 +195,12 @@ over_kinds t e [] h = refl
 over_kinds t e (f ∷ l) h = and_both (ap (λ (b : Bool). not b || not (is_closed t f)) (kinds_rise e f h.0)) (over_kinds t e l h.1)
 
 -- the first closed press is of the first kind that has one
-first_kind : (t : SurfaceTable) (l : List Binding) (stop : Binding) → Sorted key_of_binding key_lt l → first (is_closed t) l ≡ some stop
+first_kind : (t : SurfaceTable) (l : List Binding) (stop : Binding) → Sorted key_of_binding key_lt l → first (is_closed t) l ≡ Some stop
     → all (λ e. not (ltb (kind_of e) (kind_of stop)) || not (is_closed t e)) l ≡ true
 first_kind t [] stop s q = refl
 first_kind t (e ∷ l) stop s q = by_test (is_closed t e)
     (λ c.
-    let is : some e ≡ some stop = rw c at q in
+    let is : Some e ≡ Some stop = rw c at q in
     let same : e ≡ stop = cc in
     subst (λ (x : Binding). all (λ f. not (ltb (kind_of f) (kind_of x)) || not (is_closed t f)) (e ∷ l) ≡ true) same
     (and_both (ap (λ (b : Bool). not b || not (is_closed t e)) (irreflexive (kind_of e))) (over_kinds t e l s.0)))
@@ -206,10 +217,10 @@ view_stopped : (r : PlatformInputRouter) (t : SurfaceTable) (stop : Binding) →
     → all (λ e. not (ltb (kind_of e) (kind_of stop)) || not (is_closed t e)) (presses_of r) ≡ true
 view_stopped r t stop h q = go (first (is_closed t) (presses_of r)) refl q
   where
-    go : (o : Option Binding) → first (is_closed t) (presses_of r) ≡ o → closed_binding o ≡ Some stop
+    go : (o : Option Binding) → first (is_closed t) (presses_of r) ≡ o → o ≡ Some stop
         → all (λ e. not (ltb (kind_of e) (kind_of stop)) || not (is_closed t e)) (presses_of r) ≡ true
-    go none p k = let z : true ≡ false = cc in clash (sym z) refl
-    go (some e) p k = let same : e ≡ stop = cc in first_kind t (presses_of r) stop (rising_sorted key_of_binding maps.keys (presses_of r) (sound.parts r h).presses_rise) (p ∙ ap some same)
+    go None p k = let z : true ≡ false = cc in clash (sym z) refl
+    go (Some e) p k = let same : e ≡ stop = cc in first_kind t (presses_of r) stop (rising_sorted key_of_binding maps.keys (presses_of r) (sound.parts r h).presses_rise) (p ∙ ap Some same)
 
 pub claims : RouterClaims
 claims = record {

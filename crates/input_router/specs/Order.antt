@@ -1,38 +1,38 @@
 -- RULES.md, Order of events: 32, 33, 41 (unseen device, table full), in this order; and what an event in order records.
-use Rattle.std.specs.Prelude.{ℕ, Bool, true, false, cond, ◌||◌, ltb, leb, eqb, length}
+use Rattle.std.specs.Prelude.{ℕ, Bool, true, false, not, cond, ◌||◌, ltb, leb, eqb, length, Option, None, Some}
+use Rattle.std.specs.Result.{result_and}
+use Rattle.records.specs.Errors.{refusal_if}
 use Rattle.lists.specs.Tables.{entries_of}
 use Rattle.maps.specs.Keys.{device_key}
 use Rattle.maps.specs.MapTables.{found, inserted}
 use Rattle.maps.specs.Sequences.{sequences, sequence_key, sequence_of}
 use Rattle.maps.specs.declared.keys.InputDeviceId.{InputDeviceId}
 use Rattle.maps.specs.declared.sequences.DeviceSequence.{DeviceSequence}
-use Rattle.maps.specs.declared.sequences.OptionalSequence.{OptionalSequence}
-use Rattle.maps.specs.declared.sequences.OptionalSequence.TheVariants.{None, Some}
-use Rattle.input_router.specs.declared.order.Order.{Order}
-use Rattle.input_router.specs.declared.order.Order.TheVariants.{InOrder, InvalidSequence, InvalidTimestamp, PortLimit}
+use Rattle.input_events.specs.RouterErrors.{RouterOutcome}
+use Rattle.input_events.specs.declared.error.PlatformInputError.TheVariants.{InvalidSequence, InvalidTimestamp, PortLimit}
 use Rattle.input_router.specs.declared.router.PlatformInputRouter.{PlatformInputRouter}
 use Rattle.input_router.specs.Router.{with_sequences, with_timestamp}
 
 -- the device's last sequence number
-abbrev pub last_of : PlatformInputRouter → InputDeviceId → OptionalSequence
+abbrev pub last_of : PlatformInputRouter → InputDeviceId → Option ℕ
 last_of r device = sequence_of (found sequences sequence_key (device_key device) r.device_sequences)
 
 -- a sequence number is not greater than the device's last
-abbrev pub is_old : OptionalSequence → ℕ → Bool
+abbrev pub is_old : Option ℕ → ℕ → Bool
 is_old None n = false
 is_old (Some last) n = leb n last
 
 -- a device with a last number is known; another has a place while fewer than 32 are
-abbrev pub has_place_with : OptionalSequence → ℕ → Bool
+abbrev pub has_place_with : Option ℕ → ℕ → Bool
 has_place_with None known = ltb known 32
 has_place_with (Some last) known = true
 
 -- 32, 33, 41, by the device's last number, how many devices are known, and the last time
-abbrev pub order_with : OptionalSequence → ℕ → ℕ → ℕ → ℕ → Order
+abbrev pub order_with : Option ℕ → ℕ → ℕ → ℕ → ℕ → RouterOutcome
 order_with last known since n time =
-    cond (eqb n 0 || is_old last n) InvalidSequence
-    (cond (ltb time since) InvalidTimestamp
-    (cond (has_place_with last known) InOrder PortLimit))
+    result_and (refusal_if (eqb n 0 || is_old last n) InvalidSequence)
+    (result_and (refusal_if (ltb time since) InvalidTimestamp)
+    (refusal_if (not (has_place_with last known)) PortLimit))
 
 -- how many devices are known
 abbrev pub known_devices : PlatformInputRouter → ℕ
@@ -41,7 +41,7 @@ known_devices r = length (entries_of sequences r.device_sequences)
 abbrev pub has_place : PlatformInputRouter → InputDeviceId → Bool
 has_place r device = has_place_with (last_of r device) (known_devices r)
 
-abbrev pub order_of : PlatformInputRouter → InputDeviceId → ℕ → ℕ → Order
+abbrev pub order_of : PlatformInputRouter → InputDeviceId → ℕ → ℕ → RouterOutcome
 order_of r device n time = order_with (last_of r device) (known_devices r) r.last_timestamp_micros n time
 
 abbrev pub sequence_entry : InputDeviceId → ℕ → DeviceSequence

@@ -1,30 +1,38 @@
 -- RULES.md, Route, Release order: `release_surface` and `release_all` refuse 42 only; the presses of a device.
-use Rattle.std.specs.Prelude.{Bool, cond, not, List, []}
+use Rattle.std.specs.Result.{result_and, result_unwrap_or}
+use Rattle.std.specs.Prelude.{Bool, cond, not, List, [], Ok, Err}
 use Rattle.lists.specs.Lists.{keep}
 use Rattle.lists.specs.Tables.{packed}
 use Rattle.handles.specs.declared.GenerationalHandle.{GenerationalHandle}
 use Rattle.maps.specs.Keys.{device_key, device_same}
 use Rattle.maps.specs.MapTables.{retained, removed}
-use Rattle.maps.specs.Bindings.{bindings, key_of_binding}
+use Rattle.maps.specs.Bindings.{bindings, key_of_binding, Bindings}
 use Rattle.maps.specs.Sequences.{sequences, sequence_key}
 use Rattle.maps.specs.declared.keys.InputDeviceId.{InputDeviceId}
 use Rattle.maps.specs.declared.bindings.Binding.{Binding}
-use Rattle.maps.specs.declared.bindings.Bindings.{Bindings}
 use Rattle.input_events.specs.declared.error.PlatformInputError.TheVariants.{Damaged}
-use Rattle.input_events.specs.declared.error.RouterOutcome.TheVariants.{Accepted, Refused}
 use Rattle.input_router.specs.declared.releases.Released.{Released}
 use Rattle.input_router.specs.declared.router.PlatformInputRouter.{PlatformInputRouter}
 use Rattle.input_router.specs.Router.{empty_router, with_bindings, with_sequences, presses_of}
 use Rattle.input_router.specs.Damage.{is_router_sound}
-use Rattle.release_lists.specs.Releases.{releases, is_on, by_panel}
+use Rattle.input_events.specs.RouterErrors.{RouterOutcome}
+use Rattle.release_lists.specs.Releases.{Releases, releases, is_on, by_panel}
 
 -- an accepted router release: a list of releases, and the router without these presses
 abbrev pub released : List Binding → PlatformInputRouter → Released
-released l r = record { outcome = Accepted; releases = packed releases l; router = r }
+released l r = record { outcome = Ok (packed releases l); router = r }
 
 -- a damaged router is refused 42: it lists nothing and stays
 abbrev pub damaged_release : PlatformInputRouter → Released
-damaged_release r = record { outcome = Refused Damaged; releases = packed releases []; router = r }
+damaged_release r = record { outcome = Err Damaged; router = r }
+
+-- whether a release is accepted, or why it is refused, without the list
+abbrev pub release_outcome : Released → RouterOutcome
+release_outcome x = result_and x.outcome (Ok tt)
+
+-- what a release lists: nothing where it is refused
+abbrev pub releases_of : Released → Releases
+releases_of x = result_unwrap_or x.outcome (packed releases [])
 
 -- the presses of the panel: pointers, keys, gamepads, each by key
 unfoldable pub release_surface : PlatformInputRouter → GenerationalHandle → Released

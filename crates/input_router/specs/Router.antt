@@ -1,30 +1,17 @@
 -- The router: its start, and the router with one field changed.
-use Rattle.std.specs.Prelude.{ℕ, Bool, true, false, cond, List, [], ltb, eqb}
+use Rattle.std.specs.Prelude.{ℕ, cond, List, [], ltb, eqb, is_ok, Ok, Err}
 use Rattle.lists.specs.Tables.{entries_of, packed}
-use Rattle.maps.specs.Bindings.{bindings}
-use Rattle.maps.specs.Sequences.{sequences}
+use Rattle.maps.specs.Bindings.{bindings, Bindings}
+use Rattle.maps.specs.Sequences.{sequences, DeviceSequences}
 use Rattle.maps.specs.declared.bindings.Binding.{Binding}
-use Rattle.maps.specs.declared.bindings.Bindings.{Bindings}
-use Rattle.maps.specs.declared.sequences.DeviceSequences.{DeviceSequences}
 use Rattle.input_router.specs.declared.router.PlatformInputRouter.{PlatformInputRouter}
 use Rattle.input_router.specs.declared.router.RouterStart.{RouterStart}
-use Rattle.input_router.specs.declared.router.StartOutcome.{StartOutcome}
-use Rattle.input_router.specs.declared.router.StartOutcome.TheVariants.{Accepted, Capacity, PortLimit}
-
-abbrev pub is_started : StartOutcome → Bool
-is_started Accepted = true
-is_started Capacity = false
-is_started PortLimit = false
-
--- the number of a start
-abbrev pub start_number : StartOutcome → ℕ
-start_number Accepted = 0
-start_number Capacity = 40
-start_number PortLimit = 41
+use Rattle.input_events.specs.RouterErrors.{RouterOutcome}
+use Rattle.input_events.specs.declared.error.PlatformInputError.TheVariants.{Capacity, PortLimit}
 
 -- RULES.md, Start: over 128 bindings, 41; a limit of 0 is refused, 40, as in the Rust
-abbrev pub start_outcome : ℕ → StartOutcome
-start_outcome limit = cond (eqb limit 0) Capacity (cond (ltb 128 limit) PortLimit Accepted)
+abbrev pub start_outcome : ℕ → RouterOutcome
+start_outcome limit = cond (eqb limit 0) (Err Capacity) (cond (ltb 128 limit) (Err PortLimit) (Ok tt))
 
 -- no press, no known device, no time
 abbrev pub empty_router : ℕ → PlatformInputRouter
@@ -39,7 +26,7 @@ empty_router limit =
 -- a refused start answers a router with limit 0, which every call refuses 42
 abbrev pub started : ℕ → RouterStart
 started limit =
-    record { outcome = start_outcome limit; router = empty_router (cond (is_started (start_outcome limit)) limit 0) }
+    record { outcome = start_outcome limit; router = empty_router (cond (is_ok (start_outcome limit)) limit 0) }
 
 -- the router with one field changed
 abbrev pub with_bindings : Bindings → PlatformInputRouter → PlatformInputRouter

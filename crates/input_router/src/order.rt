@@ -3,63 +3,52 @@ ghost use Rattle.std.specs.Prelude.{◌≡◌};
 ghost use Rattle.input_router.specs.Order.{is_old, has_place_with, order_with, order_of, recorded};
 
 use crate::router::PlatformInputRouter;
+use input_events::error::{PlatformInputError, RouterOutcome};
 use maps::keys::InputDeviceId;
-use maps::sequences::{DeviceSequence, OptionalSequence};
+use maps::sequences::DeviceSequence;
+use records::error::refuse_if;
 
-#[derive(Clone, Copy)]
-pub enum Order {
-    InOrder,
-    InvalidSequence,
-    InvalidTimestamp,
-    PortLimit,
-}
-
-fn is_old(last: OptionalSequence, sequence: u64) -> bool
+fn is_old(last: Option<u64>, sequence: u64) -> bool
     ensures { result ≡ is_old last sequence }
 {
-    match last {
-        OptionalSequence::None => false,
-        OptionalSequence::Some(number) => sequence <= number,
-    }
+    last.is_some_and(|number| sequence <= number)
 }
 
 // Whether a device with this last number is known, or a place is left for it beside the known devices.
-fn has_place_with(last: OptionalSequence, known: usize) -> bool
+fn has_place_with(last: Option<u64>, known: usize) -> bool
     ensures { result ≡ has_place_with last known }
 {
-    match last {
-        OptionalSequence::None => known < 32,
-        OptionalSequence::Some(_) => true,
-    }
+    last.is_some() || known < 32
 }
 
 // The order of an event by what is found: its device's last number, how many devices are known, and the last time.
 pub fn order_with(
-    last: OptionalSequence,
+    last: Option<u64>,
     known: usize,
     last_timestamp_micros: u64,
     sequence: u64,
     timestamp_micros: u64,
-) -> Order
+) -> RouterOutcome
     ensures { result ≡ order_with last known last_timestamp_micros sequence timestamp_micros }
 {
-    if sequence == 0 {
-        return Order::InvalidSequence;
-    }
-    if is_old(last, sequence) {
-        return Order::InvalidSequence;
-    }
-    if timestamp_micros < last_timestamp_micros {
-        return Order::InvalidTimestamp;
-    }
-    if has_place_with(last, known) {
-        return Order::InOrder;
-    }
-    Order::PortLimit
+    refuse_if(
+        sequence == 0 || is_old(last, sequence),
+        PlatformInputError::InvalidSequence,
+    )?;
+    refuse_if(
+        timestamp_micros < last_timestamp_micros,
+        PlatformInputError::InvalidTimestamp,
+    )?;
+    refuse_if(!has_place_with(last, known), PlatformInputError::PortLimit)
 }
 
 impl PlatformInputRouter {
-    pub fn order_of(self, device: InputDeviceId, sequence: u64, timestamp_micros: u64) -> Order
+    pub fn order_of(
+        self,
+        device: InputDeviceId,
+        sequence: u64,
+        timestamp_micros: u64,
+    ) -> RouterOutcome
         ensures { result ≡ order_of self device sequence timestamp_micros }
     {
         order_with(
@@ -75,15 +64,14 @@ impl PlatformInputRouter {
     pub fn recorded(self, device: InputDeviceId, sequence: u64, timestamp_micros: u64) -> Self
         ensures { result ≡ recorded self device sequence timestamp_micros }
     {
-        let insertion = self
+        match self
             .device_sequences
-            .insert(DeviceSequence { device, sequence });
-        if insertion.inserted {
-            let sequences = insertion.sequences;
-            return self
+            .insert(DeviceSequence { device, sequence })
+        {
+            Some(sequences) => self
                 .with_sequences(sequences)
-                .with_timestamp(timestamp_micros);
+                .with_timestamp(timestamp_micros),
+            None => self,
         }
-        self
     }
 }

@@ -3,23 +3,20 @@ ghost use Rattle.std.specs.Prelude.{◌≡◌};
 ghost use Rattle.input_router.specs.Presses.{held_by, has_room_with, has_room, opened, ended};
 
 use crate::router::PlatformInputRouter;
-use handles::{GenerationalHandle, OptionalHandle};
+use handles::GenerationalHandle;
 use maps::bindings::Binding;
 use maps::keys::BindingKey;
 
 // Whether a press that this panel holds is open already, or one more may be opened.
-pub fn has_room_with(holder: OptionalHandle, count: usize, limit: u64) -> bool
+pub fn has_room_with(holder: Option<GenerationalHandle>, count: usize, limit: u64) -> bool
     ensures { result ≡ has_room_with holder count limit }
 {
-    match holder {
-        OptionalHandle::None => (count as u64) < limit,
-        OptionalHandle::Some(_) => true,
-    }
+    holder.is_some() || (count as u64) < limit
 }
 
 impl PlatformInputRouter {
     // The panel that holds the press.
-    pub fn holder(self, key: BindingKey) -> OptionalHandle
+    pub fn holder(self, key: BindingKey) -> Option<GenerationalHandle>
         ensures { result ≡ held_by self key }
     {
         self.bindings.get(key)
@@ -40,9 +37,8 @@ impl PlatformInputRouter {
     pub fn opened(self, key: BindingKey, surface: GenerationalHandle) -> Self
         ensures { result ≡ opened self key surface }
     {
-        let insertion = self.bindings.insert(Binding { key, surface });
-        let next = insertion.bindings;
-        self.with_bindings(next)
+        let moved = self.bindings.insert(Binding { key, surface });
+        self.with_bindings(moved.unwrap_or(self.bindings))
     }
 
     pub fn ended(self, key: BindingKey) -> Self

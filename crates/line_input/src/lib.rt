@@ -14,7 +14,7 @@ use script::line::Line;
 use script::words::find;
 
 // What is known once bytes are taken: where the chunk goes on, how much of the line is there, and whether that is all
-// of it.
+// of it. `complete` is no Option of the length, since a part of a line has one too; the buffer is the caller's.
 #[derive(Clone, Copy)]
 pub struct Taken {
     pub next: usize,

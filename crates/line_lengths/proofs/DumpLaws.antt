@@ -15,22 +15,18 @@ use Rattle.handles.specs.Slots.{slot_at, used_places}
 use Rattle.handles.specs.WellFormed.{free_list}
 use Rattle.handles.specs.declared.arena.Arena.{Arena}
 use Rattle.handles.specs.declared.arena.Slot.{Slot}
-use Rattle.maps.specs.Bindings.{bindings}
+use Rattle.maps.specs.Bindings.{bindings, Bindings}
 use Rattle.maps.specs.Captures.{captures}
 use Rattle.maps.specs.Sequences.{sequences}
 use Rattle.maps.specs.declared.bindings.Binding.{Binding}
-use Rattle.maps.specs.declared.bindings.Bindings.{Bindings}
 use Rattle.maps.specs.declared.keys.BindingKey.{BindingKey}
 use Rattle.maps.specs.declared.keys.BindingKey.TheVariants.{Pointer, Key, Gamepad}
 use Rattle.records.specs.Layers.{layers}
-use Rattle.records.specs.Shortcuts.{shortcuts}
-use Rattle.records.specs.Surfaces.{no_surface}
-use Rattle.records.specs.Views.{no_view}
-use Rattle.records.specs.declared.shortcut.Shortcuts.{Shortcuts}
+use Rattle.records.specs.Shortcuts.{shortcuts, Shortcuts}
+use Rattle.records.specs.Surfaces.{no_surface, SurfaceTable}
+use Rattle.records.specs.Views.{no_view, ViewTable}
 use Rattle.records.specs.declared.shortcut.SlotShortcut.{SlotShortcut}
-use Rattle.records.specs.declared.surface.SurfaceTable.{SurfaceTable}
 use Rattle.records.specs.declared.view.ViewRecord.{ViewRecord}
-use Rattle.records.specs.declared.view.ViewTable.{ViewTable}
 use Rattle.counter.specs.declared.step.Counter.{Counter}
 use Rattle.answer_numbers.specs.Groups.{handle_numbers, capture_numbers, descriptor_numbers}
 use Rattle.answer_numbers.specs.Numbers.{Number, each, indices}
@@ -122,7 +118,7 @@ module _ (l : List SlotShortcut) (f : ℕ → List Number) (h : (i : ℕ) → le
       rw (each_append f (indices n) (n ∷ []), append-nil (f n))
       (simp length-append (omega (arith, h n, slots_few n, slot_next n l)))
 
-panels_few : (s : SurfaceTable) (t : Shortcuts) → length t.entries ≡ 256 → length s.arena.free ≡ 64
+panels_few : (s : SurfaceTable) (t : Shortcuts) → length t.items ≡ 256 → length s.arena.free ≡ 64
     → length (panels_numbers s t) ≤ 2563
 panels_few s t long free =
     let l = entries_of shortcuts t in
@@ -171,7 +167,7 @@ press_few e = key_few e.key
     key_few (Key k) = omega arith
     key_few (Gamepad d) = omega arith
 
-presses_few : (kind : ℕ) (t : Bindings) → length t.entries ≡ 128 → length (presses_numbers kind t) ≤ 641
+presses_few : (kind : ℕ) (t : Bindings) → length t.table.items ≡ 128 → length (presses_numbers kind t) ≤ 641
 presses_few kind t long =
     let l = entries_of bindings t in
     list_fixed press_numbers 5 128 (keep (is_of_kind kind) l) (omega (arith, length_keep (is_of_kind kind) l, table.few bindings t long)) press_few

@@ -1,5 +1,4 @@
 pub mod PieceLaws
 pub mod SizeLaws
 pub mod DumpLaws
-pub mod TypeLaws
 pub mod LineLaws

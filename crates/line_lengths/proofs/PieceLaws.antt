@@ -1,8 +1,8 @@
 -- Numbers in a column and in a dump are put piece by piece, with commas between: by induction on the list.
+use Rattle.std.specs.Prelude.{Option, None, Some}
 use Prim.Native.Nat.{ℕ}
 use mathlib.Core.Bool.{Bool, true, false, cond}
 use mathlib.Core.List.{List, [], ◌∷◌, ◌++◌}
-use mathlib.Core.Option.{Option, none, some}
 use mathlib.Core.Path.{◌≡◌, refl, ap, ◌∙◌}
 use lib.IntN.{pos, nat_abs}
 use lib.Signed.{lt_z}
@@ -62,8 +62,8 @@ in_column (signed z) s =
     ap (λ (t : List ℕ × ℕ). text_taken (λ _. t) s) (number_put (signed z) _)
 
 pub more_put : (o : Option (List Number)) (s : List ℕ × ℕ) → more_placed Column o s ≡ put_all (more_pieces o) s
-more_put none s = refl
-more_put (some l) s = numbers_put Column shown_pieces in_column l s
+more_put None s = refl
+more_put (Some l) s = numbers_put Column shown_pieces in_column l s
 
 -- ---- a dump
 pub dump_put : (l : List Number) (s : List ℕ × ℕ) → placed Dump l s ≡ put_all (entry_pieces dumped_pieces l) s

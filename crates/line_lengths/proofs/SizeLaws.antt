@@ -1,8 +1,9 @@
 -- How many bytes the pieces of a line are at most: a number 20, and each list by how many entries it has.
+use Rattle.handles.specs.declared.GenerationalHandle.{GenerationalHandle}
+use Rattle.std.specs.Prelude.{Option, None, Some}
 use Prim.Native.Nat.{ℕ, ◌+◌, ◌*◌, ◌≤◌}
 use mathlib.Core.Bool.{Bool, true, false}
 use mathlib.Core.List.{List, [], ◌∷◌, ◌++◌, flatten}
-use mathlib.Core.Option.{Option, none, some}
 use mathlib.Core.Path.{◌≡◌}
 use native.Mathlib.Omega.{arith}
 use lib.Dec.{eqb}
@@ -11,18 +12,14 @@ use lib.ListN.{length, length-append}
 use lib.Signed.{lt_z}
 use Rattle.lists.specs.Tables.{entries_of}
 use Rattle.lists.proofs.ListLaws.{by_test}
-use Rattle.handles.specs.declared.OptionalHandle.{OptionalHandle}
-use Rattle.handles.specs.declared.OptionalHandle.TheVariants as O
 use Rattle.maps.specs.declared.bindings.Binding.{Binding}
 use Rattle.maps.specs.declared.captures.Capture.{Capture}
 use Rattle.maps.specs.declared.keys.BindingKey.{BindingKey}
 use Rattle.maps.specs.declared.keys.BindingKey.TheVariants.{Pointer, Key, Gamepad}
 use Rattle.records.specs.declared.trace.InputDelivery.{InputDelivery}
 use Rattle.records.specs.Traces.{deliveries}
-use Rattle.release_lists.specs.Captures.{capture_list}
-use Rattle.release_lists.specs.Releases.{releases, capture_release}
-use Rattle.release_lists.specs.declared.captures.CaptureList.{CaptureList}
-use Rattle.release_lists.specs.declared.releases.Releases.{Releases}
+use Rattle.release_lists.specs.Captures.{capture_list, CaptureList}
+use Rattle.release_lists.specs.Releases.{releases, capture_release, Releases}
 use Rattle.input_events.specs.RouterErrors.{router_number_of}
 use Rattle.counter.specs.declared.answer.Answer.{Answer}
 use Rattle.counter.specs.declared.step.Counter.{Counter}
@@ -92,10 +89,10 @@ triple_size : (m n k : ℕ) → size (triple_pieces m n k) ≤ 62
 unfolding flatten
 triple_size m n k = simp length-append (omega (arith, decimal_short m, decimal_short n, decimal_short k))
 
-optional_size : (o : OptionalHandle) → size (optional_pieces o) ≤ 41
+optional_size : (o : Option GenerationalHandle) → size (optional_pieces o) ≤ 41
 unfolding flatten
-optional_size O.None = omega arith
-optional_size (O.Some h) = pair_size h.index h.generation
+optional_size None = omega arith
+optional_size (Some h) = pair_size h.index h.generation
 
 -- ---- entries of columns 5 and 6
 observed_size : (b : Bool) → size (observed_pieces b) ≤ 1
@@ -155,14 +152,14 @@ columns_size calls revision a =
       releases_size a.report.synthesized_releases a.listed.captures,
     ))
 
-pub named_size : (h : OptionalHandle) → size (named_pieces h) ≤ 43
+pub named_size : (h : Option GenerationalHandle) → size (named_pieces h) ≤ 43
 unfolding flatten
 named_size h = simp size_append (omega (arith, optional_size h))
 
 pub more_size : (o : Option (List Number)) → size (more_pieces o) ≤ 1 + 22 * length (shown_numbers o)
 unfolding flatten
-more_size none = omega arith
-more_size (some l) = omega (arith, entry_size shown_pieces 22 number_size l)
+more_size None = omega arith
+more_size (Some l) = omega (arith, entry_size shown_pieces 22 number_size l)
 
 -- ---- lines that show no answer of `step`, and the end of each line
 pub head_size : (calls number revision : ℕ) → size (head_pieces calls number revision) ≤ 71

@@ -12,6 +12,6 @@ pub record StateLengths (k : Counter) : Type 0 where
   pub views : length k.registry.views.arena.free ≡ 64
   pub surfaces : length k.registry.surfaces.arena.free ≡ 64
   -- the registrations of all panels
-  pub shortcuts : length k.registry.shortcuts.entries ≡ 256
+  pub shortcuts : length k.registry.shortcuts.items ≡ 256
   -- the known devices
-  pub sequences : length k.router.device_sequences.entries ≡ 32
+  pub sequences : length k.router.device_sequences.table.items ≡ 32

@@ -1,7 +1,6 @@
 -- The replay format, Answer line: each line as one text, made of the pieces that it is put as.
-use Rattle.std.specs.Prelude.{ℕ, Bool, cond, pos, nat_abs}
+use Rattle.std.specs.Prelude.{ℕ, Bool, cond, pos, nat_abs, Option, None, Some}
 use mathlib.Core.List.{List, [], ◌∷◌, ◌++◌, flatten}
-use Rattle.std.proofs.Math.Option.{Option, none, some}
 use Rattle.std.specs.Int.Signed.{lt_z}
 use Rattle.composition_state.specs.declared.registry.CompositionRegistry.{CompositionRegistry}
 use Rattle.input_router.specs.declared.router.PlatformInputRouter.{PlatformInputRouter}
@@ -29,8 +28,8 @@ dumped_pieces n = decimal (dumped_number n) ∷ []
 
 -- column 8: `-`, or numbers with commas between
 abbrev pub more_pieces : Option (List Number) → List (List ℕ)
-more_pieces none = none_pieces
-more_pieces (some l) = entry_pieces shown_pieces l
+more_pieces None = none_pieces
+more_pieces (Some l) = entry_pieces shown_pieces l
 
 -- columns 1 to 8 of an answered call
 abbrev pub answer_pieces : ℕ → Call → Answer → Counter → List (List ℕ)

@@ -128,3 +128,10 @@ iter_none f s = refl
 pub iter_more : {S : Type 0} (f : ℕ → S → S) (n : ℕ) (s : S) → iter_below f (n + 1) s ≡ f n (iter_below f n s)
 unfolding iter_below
 iter_more f n s = ap (λ (m : ℕ). iter_below f m s) (add-one n)
+
+-- ---- a loop that stops at the first index that fails
+pub all_next : (p : ℕ → Bool) (i : ℕ) → all_below p i ≡ true → p i ≡ true → all_below p (i + 1) ≡ true
+all_next p i h t = rw (all_more p i) (and_both h t)
+
+pub all_fails : (p : ℕ → Bool) (n i : ℕ) → i < n → p i ≡ false → all_below p n ≡ false
+all_fails p n i l f = by_test (all_below p n) (λ t. clash (all_at p n i t l) f) (λ g. g)

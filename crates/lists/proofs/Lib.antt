@@ -1,9 +1,12 @@
 pub mod ListLaws
+pub mod PlaceLaws
 pub mod KeepLaws
 pub mod BelowLaws
+pub mod RunLaws
 pub mod TableLaws
 pub mod OrderLaws
 pub mod IntegerOrder
 pub mod RisingLaws
 pub mod LoopLaws
+pub mod InsertLaws
 pub mod MapLaws

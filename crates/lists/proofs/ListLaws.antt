@@ -3,7 +3,7 @@ use Prim.Native.Nat.{ℕ, zero, suc, ◌+◌, ◌-◌, ◌≤◌, ◌<◌}
 use mathlib.Core.Path.{◌≡◌, refl, sym, ap, ◌∙◌}
 use mathlib.Core.Bool.{Bool, true, false, not, ◌&&◌, true≢false}
 use mathlib.Core.List.{List, [], ◌∷◌, ◌++◌, append_assoc, append-nil, map, reverse, reverse-append, reverse-cons}
-use mathlib.Core.Option.{Option, none, some}
+use Rattle.std.specs.Prelude.{Option, None, Some}
 use native.Mathlib.Numerals.{add-one}
 use native.Mathlib.Omega.{arith}
 use lib.ListN.{length, take, drop, take-append-drop, set, get_or, length-append, length-replicate, get_or-eq_default}
@@ -18,7 +18,7 @@ by_test false f g = g refl
 pub clash {ℓ} : {P : Type ℓ} {b : Bool} → b ≡ true → b ≡ false → P
 clash t f = absurd (true≢false (sym t ∙ f))
 
-pub some≢none {ℓ} : {P : Type ℓ} {E : Type 0} {e : E} {x : Option E} → x ≡ some e → x ≡ none → P
+pub some≢none {ℓ} : {P : Type ℓ} {E : Type 0} {e : E} {x : Option E} → x ≡ Some e → x ≡ None → P
 some≢none {P} {E} {e} {x} p q = let z : ◌≡◌ {A = ℕ} 0 1 = cc in absurd (omega arith)
 
 -- a conjunction that holds, taken apart and put together
@@ -116,7 +116,7 @@ module _ {E : Type 0} where
   all_take p l i d h = rw (add-one, take-suc l i d h, all_append) (and_true (all p (take i l)) (p (get_or l i d)))
 
   -- ---- a search from a place on
-  pub first_here : (p : E → Bool) (l : List E) (i : ℕ) (d : E) → i < length l → p (get_or l i d) ≡ true → first p (drop i l) ≡ some (get_or l i d)
+  pub first_here : (p : E → Bool) (l : List E) (i : ℕ) (d : E) → i < length l → p (get_or l i d) ≡ true → first p (drop i l) ≡ Some (get_or l i d)
   first_here p l i d h t = rw (drop-cons l i d h, t)
 
   pub first_next : (p : E → Bool) (l : List E) (i : ℕ) (d : E) → i < length l → p (get_or l i d) ≡ false → first p (drop i l) ≡ first p (drop (i + 1) l)
@@ -124,11 +124,11 @@ module _ {E : Type 0} where
 
   -- ---- a search in a list that is put together, and in what a test keeps
   module _ (p : E → Bool) where
-    pub first_append : (a b : List E) → first p a ≡ none → first p (a ++ b) ≡ first p b
+    pub first_append : (a b : List E) → first p a ≡ None → first p (a ++ b) ≡ first p b
     first_append [] b h = refl
     first_append (e ∷ a) b h = by_test (p e) (λ t. some≢none refl (simp t at h)) (λ t. simp t (first_append a b (simp t at h)))
 
-    pub first_stop : (a b : List E) → first p b ≡ none → first p (a ++ b) ≡ first p a
+    pub first_stop : (a b : List E) → first p b ≡ None → first p (a ++ b) ≡ first p a
     first_stop [] b h = h
     first_stop (e ∷ a) b h = by_test (p e) (λ t. simp t) (λ t. simp t (first_stop a b h))
 
@@ -139,7 +139,7 @@ module _ {E : Type 0} where
           (λ t. by_test (p e) (λ u. simp (t, u)) (λ u. simp (t, u) (first_keep_in i l)))
           (λ t. by_test (p e) (λ u. clash (i e u) t) (λ u. simp (t, u) (first_keep_in i l)))
 
-      pub first_keep_out : ((e : E) → p e ≡ true → q e ≡ false) → (l : List E) → first p (keep q l) ≡ none
+      pub first_keep_out : ((e : E) → p e ≡ true → q e ≡ false) → (l : List E) → first p (keep q l) ≡ None
       first_keep_out i [] = refl
       first_keep_out i (e ∷ l) = by_test (q e)
           (λ t. by_test (p e) (λ u. clash t (i e u)) (λ u. simp (t, u) (first_keep_out i l)))

@@ -3,7 +3,7 @@ use Prim.Native.Nat.{ℕ, ◌+◌, ◌≤◌, ◌<◌}
 use mathlib.Core.Path.{◌≡◌, sym, ap, ◌∙◌}
 use mathlib.Core.Bool.{Bool, true, false, ◌&&◌}
 use mathlib.Core.List.{List, [], ◌∷◌, ◌++◌, append_assoc}
-use mathlib.Core.Option.{none, some}
+use Rattle.std.specs.Prelude.{None, Some}
 use native.Mathlib.Omega.{arith}
 use lib.ListN.{length, take, drop, get_or, length-append}
 use lib.Seq.{take-length, drop-length}
@@ -28,8 +28,8 @@ module _ {E T : Type 0} (s : Shape E T) (t : T) where
       test : {b : Bool} → p (get_or (s.all t) i d) ≡ b → p (get_or (entries_of s t) i d) ≡ b
       test h = ap p (entry s t i d within) ∙ h
 
-      pub search_here : Searched i → p (get_or (s.all t) i d) ≡ true → first p (entries_of s t) ≡ some (get_or (s.all t) i d)
-      search_here inv h = inv ∙ first_here p (entries_of s t) i d within (test h) ∙ ap some (entry s t i d within)
+      pub search_here : Searched i → p (get_or (s.all t) i d) ≡ true → first p (entries_of s t) ≡ Some (get_or (s.all t) i d)
+      search_here inv h = inv ∙ first_here p (entries_of s t) i d within (test h) ∙ ap Some (entry s t i d within)
 
       pub search_next : Searched i → p (get_or (s.all t) i d) ≡ false → Searched (i + 1)
       search_next inv h = inv ∙ first_next p (entries_of s t) i d within (test h)
@@ -37,7 +37,7 @@ module _ {E T : Type 0} (s : Shape E T) (t : T) where
       pub test_next : {ok next : Bool} → Tested i ok → next ≡ (ok && p (get_or (s.all t) i d)) → Tested (i + 1) next
       test_next inv e = e ∙ rw (inv, ← entry s t i d within) (sym (all_take p (entries_of s t) i d within))
 
-    pub search_end : (i : ℕ) → Searched i → i ≡ length (entries_of s t) → first p (entries_of s t) ≡ none
+    pub search_end : (i : ℕ) → Searched i → i ≡ length (entries_of s t) → first p (entries_of s t) ≡ None
     search_end i inv e = rw (inv, e, drop-length)
 
     pub test_end : (i : ℕ) {ok : Bool} → Tested i ok → i ≡ length (entries_of s t) → ok ≡ all p (entries_of s t)

@@ -2,7 +2,7 @@
 use mathlib.Core.Path.{◌≡◌, refl, sym, ap, ◌∙◌}
 use mathlib.Core.Bool.{Bool, true, false, not}
 use mathlib.Core.List.{List, [], ◌∷◌}
-use mathlib.Core.Option.{Option, none, some}
+use Rattle.std.specs.Prelude.{None, Some}
 use Prim.Native.Nat.{ℕ, ◌+◌, ◌≤◌, ◌<◌}
 use native.Mathlib.Omega.{arith}
 use lib.ListN.{length, length-append}
@@ -21,7 +21,7 @@ module _ {E K : Type 0} (key : E → K) {lt same : K → K → Bool} (o : Ordere
   apart {a} {b} f = by_test (same b a) (λ u. clash (rw (o.same_eq b a u) (o.same_refl a)) f) (λ u. u)
 
   -- ---- find after insert and after remove
-  lookup_insert_same : (e : E) (l : List E) → lookup key same (key e) (insert key lt e l) ≡ some e
+  lookup_insert_same : (e : E) (l : List E) → lookup key same (key e) (insert key lt e l) ≡ Some e
   lookup_insert_same e l =
       first_append (λ f. same (key e) (key f)) (keep (λ f. lt (key f) (key e)) l) (e ∷ keep (λ f. lt (key e) (key f)) l)
       (first_keep_out (λ f. same (key e) (key f)) (λ f. lt (key f) (key e)) (λ f t. rw (o.same_eq (key e) (key f) t) (o.irrefl (key f))) l)
@@ -34,29 +34,29 @@ module _ {E K : Type 0} (key : E → K) {lt same : K → K → Bool} (o : Ordere
       let high : E → Bool = λ f. lt (key e) (key f) in
       by_test (lt k (key e))
       (λ t.
-      let none_above : first is (e ∷ keep high l) ≡ none = simp h (first_keep_out is high (λ f u. rw (sym (o.same_eq k (key f) u)) (asym t)) l) in
+      let none_above : first is (e ∷ keep high l) ≡ None = simp h (first_keep_out is high (λ f u. rw (sym (o.same_eq k (key f) u)) (asym t)) l) in
       first_stop is (keep low l) (e ∷ keep high l) none_above ∙ first_keep_in is low (λ f u. rw (sym (o.same_eq k (key f) u)) t) l)
       (λ t.
       let all_above : first is (e ∷ keep high l) ≡ first is l = simp h (first_keep_in is high (λ f u. rw (sym (o.same_eq k (key f) u)) (o.connex k (key e) h t)) l) in
       first_append is (keep low l) (e ∷ keep high l) (first_keep_out is low (λ f u. rw (sym (o.same_eq k (key f) u)) t) l) ∙ all_above)
 
-  lookup_remove_same : (k : K) (l : List E) → lookup key same k (remove key same k l) ≡ none
+  lookup_remove_same : (k : K) (l : List E) → lookup key same k (remove key same k l) ≡ None
   lookup_remove_same k l = first_keep_out (λ f. same k (key f)) (λ f. not (same k (key f))) (λ f t. ap not t) l
 
   lookup_remove_other : (j k : K) (l : List E) → same j k ≡ false → lookup key same j (remove key same k l) ≡ lookup key same j l
   lookup_remove_other j k l h = first_keep_in (λ f. same j (key f)) (λ f. not (same k (key f))) (λ f t. rw (sym (o.same_eq j (key f) t)) (ap not (apart h))) l
 
   -- ---- a sorted list is told by its lookups
-  over_none : (k : K) (l : List E) → Over key lt k l → lookup key same k l ≡ none
+  over_none : (k : K) (l : List E) → Over key lt k l → lookup key same k l ≡ None
   over_none k [] h = refl
   over_none k (f ∷ l) h = by_test (same k (key f))
       (λ t. clash h.0 (rw (o.same_eq k (key f) t) (o.irrefl (key f))))
       (λ t. simp t (over_none k l h.1))
 
-  here : (e : E) (l : List E) → lookup key same (key e) (e ∷ l) ≡ some e
+  here : (e : E) (l : List E) → lookup key same (key e) (e ∷ l) ≡ Some e
   here e l = simp (o.same_refl (key e))
 
-  less_none : (e f : E) (m : List E) → lt (key e) (key f) ≡ true → Over key lt (key f) m → lookup key same (key e) (f ∷ m) ≡ none
+  less_none : (e f : E) (m : List E) → lt (key e) (key f) ≡ true → Over key lt (key f) m → lookup key same (key e) (f ∷ m) ≡ None
   less_none e f m t h = over_none (key e) (f ∷ m) (t, over_less key o t m h)
 
   sorted_ext : (l m : List E) → Sorted key lt l → Sorted key lt m → ((k : K) → lookup key same k l ≡ lookup key same k m) → l ≡ m
@@ -66,7 +66,7 @@ module _ {E K : Type 0} (key : E → K) {lt same : K → K → Bool} (o : Ordere
   sorted_ext (e ∷ l) (f ∷ m) sl sm h = by_test (same (key e) (key f))
       (λ t.
       let k-is = o.same_eq (key e) (key f) t in
-      let at : some e ≡ some f = sym (here e l) ∙ h (key e) ∙ simp t in
+      let at : Some e ≡ Some f = sym (here e l) ∙ h (key e) ∙ simp t in
       let e-is : e ≡ f = cc in
       let rest : (k : K) → lookup key same k l ≡ lookup key same k m = λ k. by_test (same k (key e))
       (λ u. let k-e = o.same_eq k (key e) u in rw (k-e, over_none (key e) l sl.0, k-is, over_none (key f) m sm.0))
@@ -119,7 +119,7 @@ module _ {E K : Type 0} (key : E → K) {lt same : K → K → Bool} (o : Ordere
       (λ t. simp (t, asym t) (omega (arith, parts_le k l)))
       (λ t. by_test (lt k (key f)) (λ u. simp (t, u) (omega (arith, parts_le k l))) (λ u. simp (t, u) (omega (arith, parts_le k l))))
 
-  parts_found : (k : K) (l : List E) (e : E) → lookup key same k l ≡ some e → parts k l < length l
+  parts_found : (k : K) (l : List E) (e : E) → lookup key same k l ≡ Some e → parts k l < length l
   parts_found k [] e h = some≢none {x = lookup key same k []} h refl
   parts_found k (f ∷ l) e h = by_test (same k (key f))
       (λ s. let k-f = o.same_eq k (key f) s in
@@ -130,7 +130,7 @@ module _ {E K : Type 0} (key : E → K) {lt same : K → K → Bool} (o : Ordere
       (λ t. simp (t, asym t) (omega arith))
       (λ t. by_test (lt k (key f)) (λ u. simp (t, u) (omega arith)) (λ u. simp (t, u) (omega arith))))
 
-  parts_new : (k : K) (l : List E) → lookup key same k l ≡ none → parts k l ≡ length l
+  parts_new : (k : K) (l : List E) → lookup key same k l ≡ None → parts k l ≡ length l
   parts_new k [] h = refl
   parts_new k (f ∷ l) h = by_test (same k (key f))
       (λ s. some≢none {e = f} refl (simp s at h))
@@ -141,7 +141,7 @@ module _ {E K : Type 0} (key : E → K) {lt same : K → K → Bool} (o : Ordere
   parts_over : (k : K) (l : List E) → Over key lt k l → parts k l ≡ length l
   parts_over k l h = parts_new k l (over_none k l h)
 
-  parts_sorted : (k : K) (l : List E) (e : E) → Sorted key lt l → lookup key same k l ≡ some e → parts k l + 1 ≡ length l
+  parts_sorted : (k : K) (l : List E) (e : E) → Sorted key lt l → lookup key same k l ≡ Some e → parts k l + 1 ≡ length l
   parts_sorted k [] e s h = some≢none {x = lookup key same k []} h refl
   parts_sorted k (f ∷ l) e s h = by_test (same k (key f))
       (λ c. let k-f = o.same_eq k (key f) c in
@@ -154,7 +154,7 @@ module _ {E K : Type 0} (key : E → K) {lt same : K → K → Bool} (o : Ordere
       (λ t. simp (t, o.connex k (key f) c t) (omega arith)))
 
   -- an insertion fits where the key is found, or where there is a place more
-  pub insert_fits_found : (e f : E) (l : List E) → lookup key same (key e) l ≡ some f → length (insert key lt e l) ≤ length l
+  pub insert_fits_found : (e f : E) (l : List E) → lookup key same (key e) l ≡ Some f → length (insert key lt e l) ≤ length l
   insert_fits_found e f l h = simp length-append (omega (arith, parts_found (key e) l f h))
 
   pub insert_fits : (e : E) (l : List E) → length (insert key lt e l) ≤ length l + 1

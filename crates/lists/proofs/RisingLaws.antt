@@ -1,16 +1,17 @@
 -- A rising list is sorted, each key less than all after it; what a test keeps, and an insertion, stay sorted. By induction on the list.
-use mathlib.Core.Path.{◌≡◌, refl}
-use mathlib.Core.Bool.{Bool, true, ◌&&◌}
+use mathlib.Core.Path.{◌≡◌, refl, sym}
+use mathlib.Core.Bool.{Bool, true, false, ◌&&◌}
 use mathlib.Core.List.{List, [], ◌∷◌, ◌++◌}
 use Prim.Native.Nat.{ℕ, zero, suc, ◌+◌, ◌≤◌, ◌<◌}
 use native.Mathlib.Numerals.{add-one}
 use native.Mathlib.Omega.{arith}
 use lib.ListN.{length, drop, get_or, length-drop}
 use lib.Seq.{drop-cons}
+use Rattle.std.specs.List.{IsAllAdjacentAnswer}
 use Rattle.lists.specs.Lists.{keep}
 use Rattle.lists.specs.Orders.{Ordered}
 use Rattle.lists.specs.Maps.{insert, rising, rising_from}
-use Rattle.lists.proofs.ListLaws.{by_test, and_left, and_right, and_both}
+use Rattle.lists.proofs.ListLaws.{by_test, clash, and_left, and_right, and_both}
 
 module _ {E K : Type 0} (key : E → K) (lt : K → K → Bool) where
   -- ---- the test from a place on
@@ -103,3 +104,27 @@ module _ {E K : Type 0} (key : E → K) {lt same : K → K → Bool} (o : Ordere
       let s = rising_sorted l h in
       sorted_rising key lt (insert key lt e l)
       (sorted_mid (keep (λ f. lt (key f) (key e)) l) e (keep (λ f. lt (key e) (key f)) l) (sorted_keep key lt _ l s) (under_self key lt (key e) l) (over_self key lt (key e) l) (sorted_keep key lt _ l s))
+
+-- what std answers of each entry and the next
+module _ {E K : Type 0} (key : E → K) (lt : K → K → Bool) where
+  abbrev Adjacent : List E → ℕ → E → Type 0
+  Adjacent l k d = lt (key (get_or l k d)) (key (get_or l (suc k) d)) ≡ true
+
+  all_adjacent : (l : List E) → ((k : ℕ) (d : E) → suc k < length l → Adjacent l k d) → rising key lt l ≡ true
+  all_adjacent [] h = refl
+  all_adjacent (e ∷ []) h = refl
+  all_adjacent (e ∷ f ∷ l) h = and_both (h 0 e (omega arith)) (all_adjacent (f ∷ l) (λ k d w. h (suc k) d (omega arith)))
+
+  adjacent_all : (l : List E) → rising key lt l ≡ true → (k : ℕ) (d : E) → suc k < length l → Adjacent l k d
+  adjacent_all [] r k d w = absurd (omega arith)
+  adjacent_all (e ∷ []) r k d w = absurd (omega arith)
+  adjacent_all (e ∷ f ∷ l) r zero d w = and_left (lt (key e) (key f)) (rising_from key lt f l) r
+  adjacent_all (e ∷ f ∷ l) r (suc k) d w = adjacent_all (f ∷ l) (and_right (lt (key e) (key f)) (rising_from key lt f l) r) k d (omega arith)
+
+  pub rising_answer : (l : List E) (r : Bool) → IsAllAdjacentAnswer (λ x y b. b ≡ lt (key x) (key y)) l r → r ≡ rising key lt l
+  rising_answer l true h = sym (all_adjacent l (λ k d w. sym (rw add-one at (h k d (omega arith)))))
+  rising_answer [] false h = absurd (omega (arith, h.1))
+  rising_answer (e ∷ l) false h =
+      let w : suc h.0 < length (e ∷ l) = omega (arith, h.1) in
+      let f : false ≡ lt (key (get_or (e ∷ l) h.0 e)) (key (get_or (e ∷ l) (suc h.0) e)) = rw add-one at (h.2 e) in
+      by_test (rising key lt (e ∷ l)) (λ t. clash (adjacent_all (e ∷ l) t h.0 e w) (sym f)) (λ g. sym g)

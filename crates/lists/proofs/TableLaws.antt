@@ -2,20 +2,22 @@
 use Prim.Native.Nat.{ℕ, ◌+◌, ◌≤◌, ◌<◌}
 use mathlib.Core.Path.{◌≡◌, sym, ap, ◌∙◌}
 use mathlib.Core.Bool.{Bool, true, false}
-use mathlib.Core.List.{List, [], ◌∷◌, ◌++◌, foldl, foldl-append, append_assoc, append-nil}
+use mathlib.Core.List.{List, [], ◌∷◌, ◌++◌, append_assoc, append-nil}
 use native.Mathlib.Numerals.{add-one}
 use native.Mathlib.Omega.{arith}
 use borrow.Author.Tests.{lt-ltb}
 use lib.ListN.{length, take, get_or, set, length-append, length-take}
 use lib.Seq.{get_or-take, take-suc}
+use Rattle.std.specs.List.{fold}
+use Rattle.std.proofs.lemmas.List.Sums.{fold-append}
 use Rattle.lists.specs.Lists.{keep, pad}
 use Rattle.lists.specs.Tables.{Shape, entries_of, packed, pushed, pushed_within}
-use Rattle.lists.proofs.ListLaws.{keep_yes, keep_no, keep_room, take_pad, push_pad}
+use Rattle.lists.proofs.ListLaws.{keep_yes, keep_no, keep_room, length_keep, take_pad, push_pad}
 
 -- a fold over one entry more
 pub fold_next : {E T : Type 0} (f : T → E → T) (t : T) (l : List E) (i : ℕ) (d : E) → i < length l
-    → foldl f t (take (i + 1) l) ≡ f (foldl f t (take i l)) (get_or l i d)
-fold_next f t l i d h = rw (add-one, take-suc l i d h) (foldl-append f t (take i l) (get_or l i d ∷ []))
+    → fold f t (take (i + 1) l) ≡ f (fold f t (take i l)) (get_or l i d)
+fold_next f t l i d h = rw (add-one, take-suc l i d h) (fold-append f t (take i l) (get_or l i d ∷ []))
 
 module _ {E T : Type 0} (s : Shape E T) where
   pub few : (t : T) → length (s.all t) ≡ s.size → length (entries_of s t) ≤ s.size
@@ -58,7 +60,7 @@ module _ {E T : Type 0} (s : Shape E T) where
   unfolding pushed_within
   within_packed l e h = rw (len_packed l, lt-ltb (length l) s.size h) (push_packed l e h)
 
-  pub all_within : (own l : List E) → length own + length l ≤ s.size → foldl (pushed_within s) (packed s own) l ≡ packed s (own ++ l)
+  pub all_within : (own l : List E) → length own + length l ≤ s.size → fold (pushed_within s) (packed s own) l ≡ packed s (own ++ l)
   all_within own [] h = ap (packed s) (sym (append-nil own))
   all_within own (e ∷ l) h =
       let more : length (own ++ (e ∷ [])) + length l ≤ s.size = simp length-append (omega arith) in
@@ -79,3 +81,11 @@ module _ {E T : Type 0} (s : Shape E T) where
 
       pub turn_no : p (get_or (s.all t) i d) ≡ false → packed s (l ++ keep p (take i (entries_of s t))) ≡ packed s (l ++ keep p (take (i + 1) (entries_of s t)))
       turn_no y = rw (keep_no p (entries_of s t) i d within (test y))
+
+  -- ---- a loop that keeps the entries of a list that pass p
+  module _ (p : E → Bool) (l : List E) (i : ℕ) (d : E) (within : i < length l) (fits : length l ≤ s.size) where
+    pub kept_yes : {t : T} → t ≡ packed s (keep p (take i l)) → p (get_or l i d) ≡ true → pushed_within s t (get_or l i d) ≡ packed s (keep p (take (i + 1) l))
+    kept_yes e y = rw (e, keep_yes p l i d within y) (within_packed (keep p (take i l)) (get_or l i d) (omega (arith, keep_room p l i d within y, length_keep p l)))
+
+    pub kept_no : {t : T} → t ≡ packed s (keep p (take i l)) → p (get_or l i d) ≡ false → t ≡ packed s (keep p (take (i + 1) l))
+    kept_no e n = e ∙ rw (keep_no p l i d within n)

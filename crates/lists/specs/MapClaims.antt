@@ -1,16 +1,16 @@
 -- What holds of every map with strictly rising keys: stated once, over any kind of entry, key and order.
 use Rattle.std.specs.Prelude.{ℕ, ◌+◌, ◌<◌, ◌≡◌, Bool, true, false, not, List, length, get_or}
-use Rattle.std.proofs.Math.Option.{none, some}
+use Rattle.std.specs.Prelude.{None, Some}
 use Rattle.lists.specs.Lists.{keep, passed, all}
 use Rattle.lists.specs.Maps.{insert, rising, lookup, remove}
 
 pub record MapClaims {E K : Type 0} (key : E → K) (lt same : K → K → Bool) : Type 0 where
   -- find after insert: the same key, another key
-  pub find_inserted : (e : E) (l : List E) → lookup key same (key e) (insert key lt e l) ≡ some e
+  pub find_inserted : (e : E) (l : List E) → lookup key same (key e) (insert key lt e l) ≡ Some e
   pub find_insert_other : (k : K) (e : E) (l : List E) → same k (key e) ≡ false → lookup key same k (insert key lt e l)
       ≡ lookup key same k l
   -- find after remove: the same key, another key
-  pub find_removed : (k : K) (l : List E) → lookup key same k (remove key same k l) ≡ none
+  pub find_removed : (k : K) (l : List E) → lookup key same k (remove key same k l) ≡ None
   pub find_remove_other : (j k : K) (l : List E) → same j k ≡ false → lookup key same j (remove key same k l)
       ≡ lookup key same j l
   -- rising is kept, by an insertion and by any removal
@@ -35,6 +35,6 @@ pub record MapClaims {E K : Type 0} (key : E → K) (lt same : K → K → Bool)
   pub kept_pass : (p : E → Bool) (l : List E) → all p (keep p l) ≡ true
   pub left_or_taken : (p : E → Bool) (l : List E) → length (keep p l) + length (keep (λ e. not (p e)) l) ≡ length l
   -- an insertion adds one entry exactly if the key is new
-  pub insert_new : (e : E) (l : List E) → lookup key same (key e) l ≡ none → length (insert key lt e l) ≡ length l + 1
-  pub insert_replaces : (e f : E) (l : List E) → rising key lt l ≡ true → lookup key same (key e) l ≡ some f
+  pub insert_new : (e : E) (l : List E) → lookup key same (key e) l ≡ None → length (insert key lt e l) ≡ length l + 1
+  pub insert_replaces : (e f : E) (l : List E) → rising key lt l ≡ true → lookup key same (key e) l ≡ Some f
       → length (insert key lt e l) ≡ length l

@@ -1,6 +1,6 @@
 -- A map as the list of its entries. `key` gives an entry's key; `lt` and `same` are the tests of two keys.
 use Rattle.std.specs.Prelude.{Bool, true, not, ◌&&◌, List, [], ◌∷◌, ◌++◌}
-use Rattle.std.proofs.Math.Option.{Option}
+use Rattle.std.specs.Prelude.{Option}
 use Rattle.lists.specs.Lists.{keep, first}
 
 module _ {E K : Type 0} (key : E → K) (lt : K → K → Bool) where

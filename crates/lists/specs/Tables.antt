@@ -1,7 +1,8 @@
 -- A table: an array of a fixed length, of which the first `len` places hold its entries. One form for every kind of
 -- entry.
-use Rattle.std.specs.Prelude.{ℕ, ◌+◌, cond, ◌≡◌, List, ltb, length, take, set}
+use Rattle.std.specs.Prelude.{ℕ, ◌+◌, cond, ◌≡◌, refl, List, ltb, length, take, set}
 use Rattle.lists.specs.Lists.{pad}
+use Rattle.lists.specs.declared.table.Table.{Table}
 
 -- how a struct T is a table of entries E: its number of places, what stands in an unused place, and its two fields
 pub record Shape (E T : Type 0) : Type 0 where
@@ -29,3 +30,15 @@ module _ {E T : Type 0} (s : Shape E T) where
   -- the same where a place is left; a full table stays as it is
   unfoldable pub pushed_within : T → E → T
   pushed_within t e = cond (ltb (s.len t) s.size) (pushed t e) t
+
+-- the table of n places of an entry type, with its blank entry
+abbrev pub table : {E : Type 0} (n : ℕ) → E → Shape E (Table E n)
+table n blank = record {
+  size = n;
+  blank = blank;
+  make = λ l k. record { items = l; len = k };
+  all = λ t. t.items;
+  len = λ t. t.len;
+  all_make = λ l k. refl;
+  len_make = λ l k. refl;
+}

@@ -1,5 +1,4 @@
 pub mod Keys
-pub mod Tests
 pub mod MapTables
 pub mod Captures
 pub mod Sequences

@@ -1,10 +1,11 @@
 // The keys of the maps: pointers, device keys and devices, and the one order of them all.
 ghost use Rattle.std.specs.Prelude.{◌≡◌};
-ghost use Rattle.maps.specs.Keys.{pointer_valid, device_valid, pointer_key, device_key, binding_key, key_lt, key_same, device_same};
+ghost use Rattle.maps.specs.Keys.{pointer_valid, device_valid, pointer_key, device_key, binding_key};
+ghost use Rattle.maps.specs.Keys.{device_same};
 
 // A pointer: a contact of a device.
 #[repr(C)]
-#[derive(Clone, Copy)]
+#[derive(Clone, Copy, PartialEq, Eq, PartialOrd, Ord)]
 pub struct CompositionPointerId {
     pub device: u64,
     pub device_generation: u32,
@@ -22,18 +23,12 @@ impl CompositionPointerId {
     pub fn is_valid(self) -> bool
         ensures { result ≡ pointer_valid self }
     {
-        if self.device == 0 {
-            return false;
-        }
-        if self.device_generation == 0 {
-            return false;
-        }
-        self.contact != 4294967295
+        self.device != 0 && self.device_generation != 0 && self.contact != 4294967295
     }
 }
 
 #[repr(C)]
-#[derive(Clone, Copy)]
+#[derive(Clone, Copy, PartialEq, Eq, PartialOrd, Ord)]
 pub struct InputDeviceId {
     pub value: u64,
     pub generation: u32,
@@ -43,22 +38,19 @@ impl InputDeviceId {
     pub fn is_valid(self) -> bool
         ensures { result ≡ device_valid self }
     {
-        if self.value == 0 {
-            return false;
-        }
-        self.generation != 0
+        self.value != 0 && self.generation != 0
     }
 }
 
 // A key of a device.
-#[derive(Clone, Copy)]
+#[derive(Clone, Copy, PartialEq, Eq, PartialOrd, Ord)]
 pub struct DeviceKey {
     pub device: InputDeviceId,
     pub physical_key: u32,
 }
 
 // What an open press is a press of.
-#[derive(Clone, Copy)]
+#[derive(Clone, Copy, PartialEq, Eq, PartialOrd, Ord)]
 pub enum BindingKey {
     Pointer(CompositionPointerId),
     Key(DeviceKey),
@@ -67,7 +59,7 @@ pub enum BindingKey {
 
 // A key of any kind as numbers: the kind, the device with its generation, and the contact or key.
 #[repr(C)]
-#[derive(Clone, Copy)]
+#[derive(Clone, Copy, PartialEq, Eq, PartialOrd, Ord)]
 pub struct MapKey {
     pub kind: u32,
     pub device: u64,
@@ -102,53 +94,19 @@ pub fn binding_key(key: BindingKey) -> MapKey
 {
     match key {
         BindingKey::Pointer(pointer) => pointer_key(pointer),
-        BindingKey::Key(k) => {
-            let device = k.device;
-            MapKey {
-                kind: 1,
-                device: device.value,
-                generation: device.generation,
-                code: k.physical_key,
-            }
-        }
+        BindingKey::Key(key) => MapKey {
+            kind: 1,
+            device: key.device.value,
+            generation: key.device.generation,
+            code: key.physical_key,
+        },
         BindingKey::Gamepad(device) => device_key(device),
     }
-}
-
-pub fn key_lt(a: MapKey, b: MapKey) -> bool
-    ensures { result ≡ key_lt a b }
-{
-    if a.kind == b.kind {
-        if a.device == b.device {
-            if a.generation == b.generation {
-                return a.code < b.code;
-            }
-            return a.generation < b.generation;
-        }
-        return a.device < b.device;
-    }
-    a.kind < b.kind
-}
-
-pub fn key_same(a: MapKey, b: MapKey) -> bool
-    ensures { result ≡ key_same a b }
-{
-    if a.kind == b.kind {
-        if a.device == b.device {
-            if a.generation == b.generation {
-                return a.code == b.code;
-            }
-        }
-    }
-    false
 }
 
 // Whether a key is of a device.
 pub fn of_device(key: MapKey, device: InputDeviceId) -> bool
     ensures { result ≡ device_same key device }
 {
-    if key.device == device.value {
-        return key.generation == device.generation;
-    }
-    false
+    key.device == device.value && key.generation == device.generation
 }

@@ -6,7 +6,7 @@ pub mod bindings;
 pub mod captures;
 pub mod keys;
 pub mod sequences;
-pub mod tests;
+pub mod sorted_map;
 
 ghost use Rattle.maps.specs.Claims.{Claims};
 

@@ -2,12 +2,13 @@
 ghost use Rattle.std.specs.Prelude.{ℕ, List, ◌≡◌};
 ghost use Rattle.nibcobalt.specs.Calls.{made, called};
 
-use crate::status::{Status, refusal_of, status_of};
+use crate::status::{Status, refusal_of};
 use answer_words::answered::put_answer;
 use call_numbers::call::call_at;
 use calls::call::Lists;
 use counter::step::step;
-use counter_memory::memory::{CounterMemory, counter_of, memory_of};
+use counter_memory::memory::CounterMemory;
+use host_message::hits::hits_of;
 use host_message::message::{Message, is_message};
 use host_message::registrations::registrations_of;
 
@@ -19,28 +20,26 @@ pub struct Called {
 }
 
 // The call is made, and its answer written.
+#[tactic(auto, unfolding(crate::specs::Calls::made))]
 fn make(memory: CounterMemory, message: Message, answer: &mut [u8]) -> Called
     ensures { ◌≡◌ {A = List ℕ × Called} (answer.new, result) (made memory message answer.old) }
 {
-    let words = message.call;
-    let hits = message.hits;
-    let call = call_at(words);
-    let given = registrations_of(message.registrations);
+    let call = call_at(message.call);
     let beside = Lists {
-        hits,
-        registrations: given,
+        hits: hits_of(message.hits),
+        registrations: registrations_of(message.registrations),
     };
-    let done = step(counter_of(memory), call, beside);
+    let done = step(memory.into(), call, beside);
     let length = put_answer(answer, call, done.answer, done.counter);
-    let status = Status { number: 0, length };
     Called {
-        status,
-        memory: memory_of(done.counter),
+        status: Status { number: 0, length },
+        memory: done.counter.into(),
         message,
     }
 }
 
 // A malformed message is answered 1000, a buffer that is too short 1001, and nothing is altered.
+#[tactic(auto, unfolding(crate::specs::Calls::called))]
 pub fn call(memory: CounterMemory, message: Message, answer: &mut [u8]) -> Called
     ensures { ◌≡◌ {A = List ℕ × Called} (answer.new, result) (called memory message answer.old) }
 {
@@ -49,7 +48,7 @@ pub fn call(memory: CounterMemory, message: Message, answer: &mut [u8]) -> Calle
         return make(memory, message, answer);
     }
     Called {
-        status: status_of(refusal),
+        status: Status::without_answer(refusal),
         memory,
         message,
     }

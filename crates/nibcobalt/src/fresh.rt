@@ -2,12 +2,12 @@
 ghost use Rattle.std.specs.Prelude.{◌≡◌};
 ghost use Rattle.nibcobalt.specs.Fresh.{first_refusal, started_memory};
 
-use crate::status::{Status, status_of};
+use crate::status::Status;
 use composition_state::registry::{CompositionLimits, CompositionRegistry};
 use counter::step::Counter;
-use counter_memory::memory::{CounterMemory, memory_of};
+use counter_memory::memory::CounterMemory;
 use handles::GenerationalHandle;
-use input_router::router::{PlatformInputRouter, start_number};
+use input_router::router::PlatformInputRouter;
 use records::error::number;
 
 // What a registry and a router are started with.
@@ -29,17 +29,15 @@ pub struct Started {
     pub start: Start,
 }
 
-// The registry's refusal, else the router's.
+// The registry's refusal, else the router's, as the number that C is handed.
 fn first_refusal(registry: u64, router: u64) -> u64
     ensures { result ≡ first_refusal registry router }
 {
-    if registry == 0 {
-        return router;
-    }
-    registry
+    if registry == 0 { router } else { registry }
 }
 
 // A refused start leaves the memory as it was.
+#[tactic(auto, unfolding(crate::specs::Fresh::started_memory))]
 pub fn start_counter(memory: CounterMemory, start: Start) -> Started
     ensures { result ≡ started_memory memory start }
 {
@@ -51,20 +49,21 @@ pub fn start_counter(memory: CounterMemory, start: Start) -> Started
         start.first_generation,
     );
     let free = PlatformInputRouter::new(start.max_active_bindings);
-    let outcome = first.outcome;
-    let router_outcome = free.outcome;
-    let refusal = first_refusal(number(outcome), start_number(router_outcome));
+    let refusal = first_refusal(number(first.outcome), number(free.outcome));
+    let status = Status::without_answer(refusal);
     if refusal == 0 {
-        let registry = first.registry;
-        let router = free.router;
+        let counter = Counter {
+            registry: first.registry,
+            router: free.router,
+        };
         return Started {
-            status: status_of(refusal),
-            memory: memory_of(Counter { registry, router }),
+            status,
+            memory: counter.into(),
             start,
         };
     }
     Started {
-        status: status_of(refusal),
+        status,
         memory,
         start,
     }

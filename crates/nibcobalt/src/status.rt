@@ -10,23 +10,24 @@ pub struct Status {
     pub length: usize,
 }
 
-// A status without an answer.
-pub fn status_of(number: u64) -> Status
-    ensures { result ≡ status_of number }
-{
-    Status { number, length: 0 }
+impl Status {
+    pub fn without_answer(number: u64) -> Self
+        ensures { result ≡ status_of number }
+    {
+        Self { number, length: 0 }
+    }
 }
 
-// Why a message and a buffer of so many bytes are refused, 0 if they are not. The longest answer fits into 36,864
-// bytes.
+// Why a message and a buffer of so many bytes are refused, 0 if they are not: the number that C is handed. The longest
+// answer fits into 36,864 bytes.
 pub fn refusal_of(is_form: bool, length: usize) -> u64
     ensures { result ≡ refusal_of is_form length }
 {
-    if is_form {
-        if length < 36864 {
-            return 1001;
-        }
-        return 0;
+    if !is_form {
+        1000
+    } else if length < 36864 {
+        1001
+    } else {
+        0
     }
-    1000
 }

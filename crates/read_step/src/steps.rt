@@ -1,6 +1,6 @@
 // Each call that alters nothing.
 ghost use Rattle.std.specs.Prelude.{◌≡◌};
-ghost use Rattle.read_step.specs.Reads.{counts_of, shown_if, read_of, hit_read, local_read, traces_step, counts_step, router_damage, open_step, read_step};
+ghost use Rattle.read_step.specs.Reads.{counts_of, hit_read, local_read, counts_step, router_damage, open_step, read_step};
 
 use calls::arguments::{HitTestArguments, InversePointArguments};
 use calls::call::ReadCall;
@@ -12,55 +12,26 @@ use composition_reads::{
     view_window,
 };
 use composition_state::registry::CompositionRegistry;
+use geometry::transform::Point;
 use input_router::router::PlatformInputRouter;
-use records::error::{CompositionError, Outcome};
-
-#[derive(Clone, Copy)]
-pub struct ReadStepped {
-    pub outcome: Outcome,
-    pub shown: Shown,
-}
-
-// A refused read shows nothing.
-fn shown_if(outcome: Outcome, shown: Shown) -> Shown
-    ensures { result ≡ shown_if outcome shown }
-{
-    match outcome {
-        Outcome::Accepted => shown,
-        Outcome::Refused(_) => Shown::Nothing,
-    }
-}
-
-fn read(outcome: Outcome, shown: Shown) -> ReadStepped
-    ensures { result ≡ read_of outcome shown }
-{
-    ReadStepped {
-        outcome,
-        shown: shown_if(outcome, shown),
-    }
-}
+use records::error::{CompositionError, Outcome, refuse_if};
 
 // The hits themselves are found where they are written.
-fn read_hits(registry: CompositionRegistry, given: HitTestArguments) -> ReadStepped
+fn read_hits(
+    registry: CompositionRegistry,
+    given: HitTestArguments,
+) -> Result<Shown, CompositionError>
     ensures { result ≡ hit_read registry given }
 {
-    let outcome = hit_test_refusal(registry, given.view, given.length as usize);
-    read(outcome, Shown::Hits(given))
+    hit_test_refusal(registry, given.view, given.length as usize)?;
+    Ok(Shown::Hits(given))
 }
 
-fn read_local(given: InversePointArguments) -> ReadStepped
+fn read_local(given: InversePointArguments) -> Shown
     ensures { result ≡ local_read given }
 {
-    let transform = given.transform;
-    let point = given.point;
-    let local = transform.inverse_point(point.x_milli, point.y_milli);
-    read(Outcome::Accepted, Shown::Local(local))
-}
-
-fn read_traces(registry: CompositionRegistry) -> ReadStepped
-    ensures { result ≡ traces_step registry }
-{
-    read(registry.damage(), Shown::Traces)
+    let Point { x_milli, y_milli } = given.point;
+    Shown::Local(given.transform.inverse_point(x_milli, y_milli))
 }
 
 fn count(registry: CompositionRegistry) -> Counts
@@ -76,77 +47,58 @@ fn count(registry: CompositionRegistry) -> Counts
     }
 }
 
-fn read_counts(registry: CompositionRegistry) -> ReadStepped
+fn read_counts(registry: CompositionRegistry) -> Result<Shown, CompositionError>
     ensures { result ≡ counts_step registry }
 {
-    read(registry.damage(), Shown::Counts(count(registry)))
+    registry.damage()?;
+    Ok(Shown::Counts(count(registry)))
 }
 
 // A damaged router is refused 42, as a damaged registry is.
 fn router_damage(router: PlatformInputRouter) -> Outcome
     ensures { result ≡ router_damage router }
 {
-    if router.is_sound() {
-        return Outcome::Accepted;
-    }
-    Outcome::Refused(CompositionError::Damaged)
+    refuse_if(!router.is_sound(), CompositionError::Damaged)
 }
 
-fn read_open_presses(router: PlatformInputRouter) -> ReadStepped
+fn read_open_presses(router: PlatformInputRouter) -> Result<Shown, CompositionError>
     ensures { result ≡ open_step router }
 {
-    read(
-        router_damage(router),
-        Shown::BindingCount(router.active_binding_count() as u64),
-    )
+    router_damage(router)?;
+    Ok(Shown::BindingCount(router.active_binding_count() as u64))
 }
 
+// What a call that alters nothing shows, or its refusal.
+#[tactic(auto, unfolding(crate::specs::Reads::read_step))]
 pub fn read_step(
     registry: CompositionRegistry,
     router: PlatformInputRouter,
     call: ReadCall,
-) -> ReadStepped
+) -> Result<Shown, CompositionError>
     ensures { result ≡ read_step registry router call }
 {
     match call {
-        ReadCall::ViewWindow(view) => {
-            let found = view_window(registry, view);
-            let outcome = found.outcome;
-            let window = found.window;
-            read(outcome, Shown::Window(window))
-        }
-        ReadCall::ViewMetrics(view) => {
-            let found = view_metrics(registry, view);
-            let outcome = found.outcome;
-            let metrics = found.metrics;
-            read(outcome, Shown::Metrics(metrics))
-        }
-        ReadCall::ViewInputState(view) => {
-            let found = view_input_state(registry, view);
-            let outcome = found.outcome;
-            let state = found.state;
-            read(outcome, Shown::InputState(state))
-        }
+        ReadCall::ViewWindow(view) => Ok(Shown::Window(view_window(registry, view)?)),
+        ReadCall::ViewMetrics(view) => Ok(Shown::Metrics(view_metrics(registry, view)?)),
+        ReadCall::ViewInputState(view) => Ok(Shown::InputState(view_input_state(registry, view)?)),
         ReadCall::ViewPointerCaptures(view) => {
-            let found = view_pointer_captures(registry, view);
-            let outcome = found.outcome;
-            read(outcome, Shown::Captures(view))
+            view_pointer_captures(registry, view)?;
+            Ok(Shown::Captures(view))
         }
         ReadCall::SurfaceDescriptor(surface) => {
-            let found = surface_descriptor(registry, surface);
-            let outcome = found.outcome;
-            let descriptor = found.descriptor;
-            read(outcome, Shown::Descriptor(descriptor))
+            Ok(Shown::Descriptor(surface_descriptor(registry, surface)?))
         }
         ReadCall::ViewLayers(view) => {
-            let found = view_layers(registry, view);
-            let outcome = found.outcome;
-            read(outcome, Shown::Layers(view))
+            view_layers(registry, view)?;
+            Ok(Shown::Layers(view))
         }
-        ReadCall::Traces => read_traces(registry),
+        ReadCall::Traces => {
+            registry.damage()?;
+            Ok(Shown::Traces)
+        }
         ReadCall::Counts => read_counts(registry),
         ReadCall::ActiveBindingCount => read_open_presses(router),
         ReadCall::HitTestStack(given) => read_hits(registry, given),
-        ReadCall::InversePoint(given) => read_local(given),
+        ReadCall::InversePoint(given) => Ok(read_local(given)),
     }
 }

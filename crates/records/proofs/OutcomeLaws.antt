@@ -1,4 +1,6 @@
 -- Which numbers a chain of checks answers, by the cases of each check; and no refusal has number 0.
+use Rattle.std.specs.Prelude.{Ok, Err}
+use Rattle.std.specs.Result.{result_and}
 use Prim.Native.Nat.{ℕ}
 use mathlib.Core.Path.{◌≡◌, refl}
 use mathlib.Core.Bool.{Bool, true, false, not, ◌&&◌}
@@ -7,9 +9,7 @@ use Rattle.handles.specs.declared.arena.SlotStatus.{SlotStatus}
 use Rattle.handles.specs.declared.arena.SlotStatus.TheVariants.{Live, Invalid, Stale}
 use Rattle.records.specs.declared.error.CompositionError.{CompositionError}
 use Rattle.records.specs.declared.error.CompositionError.TheVariants as error
-use Rattle.records.specs.declared.error.Outcome.{Outcome}
-use Rattle.records.specs.declared.error.Outcome.TheVariants.{Accepted, Refused}
-use Rattle.records.specs.Errors.{error_number, then_refusal, refusal_if, status_refusal}
+use Rattle.records.specs.Errors.{error_number, refusal_if, status_refusal, Outcome}
 
 pub not_zero : (e : CompositionError) → eqb (error_number e) 0 ≡ false
 not_zero error.InvalidConfig = refl
@@ -39,19 +39,19 @@ not_zero error.Damaged = refl
 
 -- ---- an answer that is accepted, or whose number passes a test
 abbrev allows : (ℕ → Bool) → Outcome → Bool
-allows p Accepted = true
-allows p (Refused e) = p (error_number e)
+allows p (Ok _) = true
+allows p (Err e) = p (error_number e)
 
 pub record Within (p : ℕ → Bool) (o : Outcome) : Type 0 where
   pub is : allows p o ≡ true
 
 module _ (p : ℕ → Bool) where
-  pub accepted : Within p Accepted
+  pub accepted : Within p (Ok tt)
   accepted = record { is = refl }
 
-  both_within : (a b : Outcome) → Within p a → Within p b → Within p (then_refusal a b)
-  both_within Accepted b f g = g
-  both_within (Refused e) b f g = f
+  both_within : (a b : Outcome) → Within p a → Within p b → Within p (result_and a b)
+  both_within (Ok _) b f g = g
+  both_within (Err e) b f g = f
 
   pub if_within : (b : Bool) (e : CompositionError) → p (error_number e) ≡ true → Within p (refusal_if b e)
   if_within true e h = record { is = h }
@@ -64,10 +64,10 @@ module _ (p : ℕ → Bool) where
 
   -- numbers that pass one test pass another
   pub within_as : (q : ℕ → Bool) → ((n : ℕ) → p n ≡ true → q n ≡ true) → (o : Outcome) → Within p o → Within q o
-  within_as q f Accepted h = record { is = refl }
-  within_as q f (Refused e) h = record { is = f (error_number e) h.is }
+  within_as q f (Ok _) h = record { is = refl }
+  within_as q f (Err e) h = record { is = f (error_number e) h.is }
 
-pub then_within : {p : ℕ → Bool} {a b : Outcome} → Within p a → Within p b → Within p (then_refusal a b)
+pub then_within : {p : ℕ → Bool} {a b : Outcome} → Within p a → Within p b → Within p (result_and a b)
 then_within {p} {a} {b} f g = both_within p a b f g
 
 -- ---- the numbers that neither come after a change (21) nor from the damage test (42)

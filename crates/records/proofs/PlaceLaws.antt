@@ -10,9 +10,8 @@ use Rattle.lists.proofs.ListLaws.{by_test}
 use Rattle.handles.proofs.SlotLaws.{by_same}
 use Rattle.handles.specs.declared.GenerationalHandle.{GenerationalHandle}
 use Rattle.records.specs.declared.surface.SurfaceRecord.{SurfaceRecord}
-use Rattle.records.specs.declared.surface.SurfaceTable.{SurfaceTable}
+use Rattle.records.specs.Surfaces.{SurfaceTable, no_surface, descriptor_of, with_surface}
 use Rattle.records.specs.Claims.{SamePlaces, RecordClaims}
-use Rattle.records.specs.Surfaces.{no_surface, descriptor_of, with_surface}
 use Rattle.records.proofs.OutcomeLaws.{not_zero}
 
 module _ {E : Type 0} where

@@ -3,9 +3,8 @@ use Rattle.std.specs.Prelude.{◌≡◌, false, eqb}
 use Rattle.handles.specs.declared.GenerationalHandle.{GenerationalHandle}
 use Rattle.records.specs.declared.error.CompositionError.{CompositionError}
 use Rattle.records.specs.declared.surface.SurfaceRecord.{SurfaceRecord}
-use Rattle.records.specs.declared.surface.SurfaceTable.{SurfaceTable}
+use Rattle.records.specs.Surfaces.{SurfaceTable, descriptor_of, surface_status, with_surface}
 use Rattle.records.specs.Errors.{error_number}
-use Rattle.records.specs.Surfaces.{descriptor_of, surface_status, with_surface}
 
 -- RULES.md, Layers: a panel's place among them comes from its view, its z_order and its handle
 pub record SamePlaces (t after : SurfaceTable) : Type 0 where

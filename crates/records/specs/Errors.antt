@@ -1,11 +1,9 @@
 -- RULES.md, Refusals: the numbers, and the order of refusals.
-use Rattle.std.specs.Prelude.{ℕ, Bool, true, false}
+use Rattle.std.specs.Prelude.{ℕ, Bool, true, false, Result, Ok, Err}
 use Rattle.handles.specs.declared.arena.SlotStatus.{SlotStatus}
 use Rattle.handles.specs.declared.arena.SlotStatus.TheVariants.{Live, Invalid, Stale}
 use Rattle.records.specs.declared.error.CompositionError.{CompositionError}
 use Rattle.records.specs.declared.error.CompositionError.TheVariants as error
-use Rattle.records.specs.declared.error.Outcome.{Outcome}
-use Rattle.records.specs.declared.error.Outcome.TheVariants.{Accepted, Refused}
 
 -- numbers 1 to 22 in the declared order; 41, a port limit is passed; 42, the state handed in is damaged
 abbrev pub error_number : CompositionError → ℕ
@@ -34,26 +32,24 @@ error_number error.GenerationExhausted = 22
 error_number error.PortLimit = 41
 error_number error.Damaged = 42
 
+-- a call's answer that has no value: accepted, or why it is refused
+abbrev pub Outcome : Type 0
+Outcome = Result (Unit {0}) CompositionError
+
 -- 0 is accepted
+abbrev pub answer_number : {E : Type 0} → (E → ℕ) → Result (Unit {0}) E → ℕ
+answer_number number (Ok _) = 0
+answer_number number (Err e) = number e
+
 abbrev pub number_of : Outcome → ℕ
-number_of Accepted = 0
-number_of (Refused e) = error_number e
+number_of = answer_number error_number
 
-abbrev pub is_accepted : Outcome → Bool
-is_accepted Accepted = true
-is_accepted (Refused e) = false
-
--- checks go in order: the first that refuses decides
-abbrev pub then_refusal : Outcome → Outcome → Outcome
-then_refusal Accepted next = next
-then_refusal (Refused e) next = Refused e
-
-abbrev pub refusal_if : Bool → CompositionError → Outcome
-refusal_if true e = Refused e
-refusal_if false e = Accepted
+abbrev pub refusal_if : {E : Type 0} → Bool → E → Result (Unit {0}) E
+refusal_if true e = Err e
+refusal_if false e = Ok tt
 
 -- 5, 8, 11: generation 0 or a slot never used; 6, 9, 12: the slot is empty or of another generation
 abbrev pub status_refusal : SlotStatus → CompositionError → CompositionError → Outcome
-status_refusal Live invalid stale = Accepted
-status_refusal Invalid invalid stale = Refused invalid
-status_refusal Stale invalid stale = Refused stale
+status_refusal Live invalid stale = Ok tt
+status_refusal Invalid invalid stale = Err invalid
+status_refusal Stale invalid stale = Err stale

@@ -1,8 +1,9 @@
 -- RULES.md, Layers: from lowest to highest z_order, ties by handle.
-use Rattle.std.specs.Prelude.{refl, Bool, true, false, cond, not, List, map, length, get_or, ltb, ℤ}
+use Rattle.std.specs.Prelude.{Bool, true, false, cond, not, List, map, length, get_or, ltb, ℤ}
 use Rattle.std.specs.Int.Signed.{lt_z}
 use Rattle.lists.specs.Lists.{keep, pad}
-use Rattle.lists.specs.Tables.{Shape, entries_of, packed}
+use Rattle.lists.specs.Tables.{Shape, table, entries_of, packed}
+use Rattle.lists.specs.declared.table.Table.{Table}
 use Rattle.lists.specs.Orders.{lex_both}
 use Rattle.lists.specs.Maps.{insert, rising}
 use Rattle.handles.specs.Handles.{handle_of, handle_lt, same_handle}
@@ -10,23 +11,14 @@ use Rattle.handles.specs.declared.GenerationalHandle.{GenerationalHandle}
 use Rattle.handles.specs.declared.arena.SlotStatus.{SlotStatus}
 use Rattle.handles.specs.declared.arena.SlotStatus.TheVariants.{Live, Invalid, Stale}
 use Rattle.records.specs.declared.surface.SurfaceRecord.{SurfaceRecord}
-use Rattle.records.specs.declared.surface.SurfaceTable.{SurfaceTable}
-use Rattle.records.specs.declared.layers.Layers.{Layers}
-use Rattle.records.specs.declared.layers.LayerTest.{LayerTest}
-use Rattle.records.specs.declared.layers.LayerTest.TheVariants.{Below, Above, Other}
-use Rattle.records.specs.Surfaces.{no_surface, surface_status, descriptor_of}
+use Rattle.records.specs.Surfaces.{SurfaceTable, no_surface, surface_status, descriptor_of}
 
 -- RULES.md, Port limits: 16 panels a view
+abbrev pub Layers : Type 0
+Layers = Table GenerationalHandle 16
+
 abbrev pub layers : Shape GenerationalHandle Layers
-layers = record {
-  size = 16;
-  blank = handle_of 0 0;
-  make = λ l n. record { items = l; len = n };
-  all = λ t. t.items;
-  len = λ t. t.len;
-  all_make = λ l n. refl;
-  len_make = λ l n. refl;
-}
+layers = table 16 (handle_of 0 0)
 
 abbrev pub z_of : List SurfaceRecord → GenerationalHandle → ℤ
 z_of records h = (get_or records h.index no_surface).descriptor.z_order
@@ -38,11 +30,6 @@ place_of records h = (z_of records h, h)
 -- a panel lies below another: by z_order, then by handle
 unfoldable pub layer_lt : List SurfaceRecord → GenerationalHandle → GenerationalHandle → Bool
 layer_lt records a b = lex_both lt_z handle_lt (place_of records a) (place_of records b)
-
-abbrev pub layer_passes : List SurfaceRecord → LayerTest → GenerationalHandle → Bool
-layer_passes records (Below h) at = layer_lt records at h
-layer_passes records (Above h) at = layer_lt records h at
-layer_passes records (Other h) at = not (same_handle h at)
 
 -- a layer is its own key
 abbrev pub itself : GenerationalHandle → GenerationalHandle

@@ -1,22 +1,20 @@
 -- The registrations of all panels, in the order given, each with the slot of its panel.
-use Rattle.std.specs.Prelude.{ℕ, refl, Bool, not, eqb, pos}
+use Rattle.std.specs.Prelude.{ℕ, Bool, not, eqb, pos}
 use Rattle.lists.specs.Lists.{keep}
-use Rattle.lists.specs.Tables.{Shape, entries_of, packed}
+use Rattle.lists.specs.Tables.{Shape, table, entries_of, packed}
+use Rattle.lists.specs.declared.table.Table.{Table}
 use Rattle.records.specs.declared.shortcut.ShortcutScope.TheVariants.{View}
 use Rattle.records.specs.declared.shortcut.SlotShortcut.{SlotShortcut}
-use Rattle.records.specs.declared.shortcut.Shortcuts.{Shortcuts}
 
 -- RULES.md, Port limits: 256 shortcut registrations in all
+abbrev pub Shortcuts : Type 0
+Shortcuts = Table SlotShortcut 256
+
+abbrev pub no_shortcut : SlotShortcut
+no_shortcut = record { slot = 0; registration = record { class_mask = 0; scope = View; priority = pos 0 } }
+
 abbrev pub shortcuts : Shape SlotShortcut Shortcuts
-shortcuts = record {
-  size = 256;
-  blank = record { slot = 0; registration = record { class_mask = 0; scope = View; priority = pos 0 } };
-  make = λ l n. record { entries = l; len = n };
-  all = λ t. t.entries;
-  len = λ t. t.len;
-  all_make = λ l n. refl;
-  len_make = λ l n. refl;
-}
+shortcuts = table 256 no_shortcut
 
 -- the registrations of all slots but one, in their order
 abbrev pub is_of_other_slot : ℕ → SlotShortcut → Bool

@@ -1,21 +1,19 @@
 -- Panels: their records by slot.
-use Rattle.std.specs.Prelude.{Bool, true, false, get_or, set, pos}
-use Rattle.geometry.specs.declared.rect.OptionalRect.TheVariants as rect
+use Rattle.std.specs.Prelude.{Bool, true, false, get_or, set, pos, None, Some}
 use Rattle.geometry.specs.declared.surface.SurfaceGeometry.{SurfaceGeometry}
 use Rattle.handles.specs.Handles.{handle_of}
 use Rattle.handles.specs.Slots.{lookup_of}
 use Rattle.handles.specs.declared.GenerationalHandle.{GenerationalHandle}
 use Rattle.handles.specs.declared.arena.Arena.{Arena}
 use Rattle.handles.specs.declared.arena.SlotStatus.{SlotStatus}
-use Rattle.records.specs.declared.error.Outcome.{Outcome}
 use Rattle.records.specs.declared.error.CompositionError.TheVariants.{InvalidSurface, StaleSurface}
 use Rattle.records.specs.declared.surface.SurfaceKind.TheVariants.{Game}
 use Rattle.records.specs.declared.surface.SurfaceInputPolicy.{SurfaceInputPolicy}
 use Rattle.records.specs.declared.surface.SurfaceInputPolicy.TheVariants.{Observe, Passthrough, Interactive, Exclusive}
 use Rattle.records.specs.declared.surface.SurfaceDescriptor.{SurfaceDescriptor}
+use Rattle.records.specs.declared.slot_table.SlotTable.{SlotTable}
 use Rattle.records.specs.declared.surface.SurfaceRecord.{SurfaceRecord}
-use Rattle.records.specs.declared.surface.SurfaceTable.{SurfaceTable}
-use Rattle.records.specs.Errors.{status_refusal}
+use Rattle.records.specs.Errors.{status_refusal, Outcome}
 
 -- RULES.md, Panels: policy Interactive or Exclusive
 abbrev pub is_interactive : SurfaceInputPolicy → Bool
@@ -35,8 +33,8 @@ no_surface =
         input = Observe;
         accepts_text = false;
         geometry = record {
-          bounds = rect.None;
-          clip = rect.None;
+          bounds = None;
+          clip = None;
           transform =
               record {
                 m11_q16 = pos 0;
@@ -51,6 +49,10 @@ no_surface =
         };
       };
     }
+
+-- the slots of the panels, and a record for each slot
+abbrev pub SurfaceTable : Type 0
+SurfaceTable = SlotTable SurfaceRecord 64
 
 -- the record and the descriptor of a panel, by its slot
 abbrev pub surface_at : SurfaceTable → GenerationalHandle → SurfaceRecord

@@ -1,58 +1,44 @@
 -- The last arbitrations, oldest first, each with its hits and deliveries.
-use Rattle.std.specs.Prelude.{refl, false, []}
-use Rattle.lists.specs.Tables.{Shape, packed}
+use Rattle.std.specs.Prelude.{false, [], None}
+use Rattle.lists.specs.Tables.{Shape, table, packed}
+use Rattle.lists.specs.declared.table.Table.{Table}
 use Rattle.handles.specs.Handles.{handle_of}
 use Rattle.handles.specs.declared.GenerationalHandle.{GenerationalHandle}
-use Rattle.handles.specs.declared.OptionalHandle.TheVariants.{None}
 use Rattle.records.specs.declared.trace.ArbitrationEvent.TheVariants.{Keyboard}
-use Rattle.records.specs.declared.trace.Hits.{Hits}
 use Rattle.records.specs.declared.trace.InputDelivery.{InputDelivery}
-use Rattle.records.specs.declared.trace.Deliveries.{Deliveries}
 use Rattle.records.specs.declared.trace.CompositionTrace.{CompositionTrace}
-use Rattle.records.specs.declared.trace.Traces.{Traces}
 
 -- RULES.md, Arbitrate: at most 16 hits are handed in
+abbrev pub Hits : Type 0
+Hits = Table GenerationalHandle 16
+
 abbrev pub hits : Shape GenerationalHandle Hits
-hits =
-    record {
-      size = 16;
-      blank = handle_of 0 0;
-      make = λ l n. record { items = l; len = n };
-      all = λ t. t.items;
-      len = λ t. t.len;
-      all_make = λ l n. refl;
-      len_make = λ l n. refl;
-    }
+hits = table 16 (handle_of 0 0)
 
 -- a view has at most 16 panels, so there are at most 16 deliveries
+abbrev pub Deliveries : Type 0
+Deliveries = Table InputDelivery 16
+
+abbrev pub no_delivery : InputDelivery
+no_delivery = record { surface = handle_of 0 0; observed = false }
+
 abbrev pub deliveries : Shape InputDelivery Deliveries
-deliveries =
-    record {
-      size = 16;
-      blank = record { surface = handle_of 0 0; observed = false };
-      make = λ l n. record { items = l; len = n };
-      all = λ t. t.items;
-      len = λ t. t.len;
-      all_make = λ l n. refl;
-      len_make = λ l n. refl;
-    }
+deliveries = table 16 no_delivery
 
 -- RULES.md, Port limits: 32 traces
+abbrev pub Traces : Type 0
+Traces = Table CompositionTrace 32
+
+abbrev pub no_trace : CompositionTrace
+no_trace =
+    record {
+      revision = 0;
+      view = handle_of 0 0;
+      event = Keyboard;
+      hits = packed hits [];
+      deliveries = packed deliveries [];
+      consumed_by = None;
+    }
+
 abbrev pub traces : Shape CompositionTrace Traces
-traces = record {
-  size = 32;
-  blank =
-      record {
-        revision = 0;
-        view = handle_of 0 0;
-        event = Keyboard;
-        hits = packed hits [];
-        deliveries = packed deliveries [];
-        consumed_by = None;
-      };
-  make = λ l n. record { items = l; len = n };
-  all = λ t. t.items;
-  len = λ t. t.len;
-  all_make = λ l n. refl;
-  len_make = λ l n. refl;
-}
+traces = table 32 no_trace

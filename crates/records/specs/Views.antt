@@ -1,25 +1,20 @@
 -- Views: their records by slot.
-use Rattle.std.specs.Prelude.{ℕ, cond, [], get_or, set, ltb}
+use Rattle.std.specs.Prelude.{ℕ, cond, [], get_or, set, ltb, Option, None}
 use Rattle.lists.specs.Tables.{packed}
 use Rattle.geometry.specs.Metrics.{default_metrics}
 use Rattle.geometry.specs.declared.metrics.ViewMetrics.{ViewMetrics}
 use Rattle.handles.specs.Handles.{handle_of}
 use Rattle.handles.specs.Slots.{lookup_of}
 use Rattle.handles.specs.declared.GenerationalHandle.{GenerationalHandle}
-use Rattle.handles.specs.declared.OptionalHandle.{OptionalHandle}
-use Rattle.handles.specs.declared.OptionalHandle.TheVariants.{None}
 use Rattle.handles.specs.declared.arena.Arena.{Arena}
 use Rattle.handles.specs.declared.arena.SlotStatus.{SlotStatus}
-use Rattle.maps.specs.Captures.{captures}
-use Rattle.maps.specs.declared.captures.PointerCaptures.{PointerCaptures}
-use Rattle.records.specs.declared.error.Outcome.{Outcome}
+use Rattle.maps.specs.Captures.{captures, PointerCaptures}
 use Rattle.records.specs.declared.error.CompositionError.TheVariants.{InvalidView, StaleView}
-use Rattle.records.specs.declared.layers.Layers.{Layers}
+use Rattle.records.specs.Layers.{Layers, layers}
+use Rattle.records.specs.declared.slot_table.SlotTable.{SlotTable}
 use Rattle.records.specs.declared.view.ViewRecord.{ViewRecord}
-use Rattle.records.specs.declared.view.ViewTable.{ViewTable}
 use Rattle.records.specs.declared.view.ViewInputState.{ViewInputState}
-use Rattle.records.specs.Errors.{status_refusal}
-use Rattle.records.specs.Layers.{layers}
+use Rattle.records.specs.Errors.{status_refusal, Outcome}
 
 -- a view just created: no panel, focus, capture or composition
 abbrev pub fresh_view : GenerationalHandle → ViewRecord
@@ -37,6 +32,10 @@ fresh_view window =
 -- what a read past the table gives
 abbrev pub no_view : ViewRecord
 no_view = fresh_view (handle_of 0 0)
+
+-- the slots of the views, and a record for each slot
+abbrev pub ViewTable : Type 0
+ViewTable = SlotTable ViewRecord 16
 
 -- the record of a view, by its slot
 abbrev pub view_at : ViewTable → GenerationalHandle → ViewRecord
@@ -71,7 +70,7 @@ with_layers l v =
       ime = v.ime;
     }
 
-abbrev pub with_focus : OptionalHandle → ViewRecord → ViewRecord
+abbrev pub with_focus : Option GenerationalHandle → ViewRecord → ViewRecord
 with_focus f v =
     record {
       window = v.window;
@@ -83,7 +82,7 @@ with_focus f v =
       ime = v.ime;
     }
 
-abbrev pub with_pointer_capture : OptionalHandle → ViewRecord → ViewRecord
+abbrev pub with_pointer_capture : Option GenerationalHandle → ViewRecord → ViewRecord
 with_pointer_capture p v =
     record {
       window = v.window;
@@ -107,7 +106,7 @@ with_pointer_captures c v =
       ime = v.ime;
     }
 
-abbrev pub with_ime : OptionalHandle → ViewRecord → ViewRecord
+abbrev pub with_ime : Option GenerationalHandle → ViewRecord → ViewRecord
 with_ime i v =
     record {
       window = v.window;

@@ -1,13 +1,14 @@
 // Why a call is refused.
-ghost use Rattle.std.specs.Prelude.{◌≡◌};
-ghost use Rattle.records.specs.Errors.{error_number, number_of, then_refusal, refusal_if, status_refusal, is_accepted};
+ghost use Rattle.std.specs.Result.{result_and};
+ghost use Rattle.std.specs.Prelude.{ℕ, ◌≡◌, is_ok};
+ghost use Rattle.records.specs.Errors.{error_number, answer_number, refusal_if, status_refusal};
 
 use handles::arena::SlotStatus;
 
 // The Rust's errors in their declared order, and the two added by the port.
-#[derive(Clone, Copy)]
+#[derive(Clone, Copy, PartialEq, Eq)]
 pub enum CompositionError {
-    InvalidConfig,
+    InvalidConfig = 1,
     InvalidOwner,
     Capacity,
     PerViewCapacity,
@@ -29,44 +30,43 @@ pub enum CompositionError {
     RevisionConflict,
     RevisionExhausted,
     GenerationExhausted,
-    PortLimit,
+    PortLimit = 41,
     Damaged,
 }
 
-#[derive(Clone, Copy)]
-pub enum Outcome {
-    Accepted,
-    Refused(CompositionError),
+// The answer of a call that has no other.
+pub type Outcome = Result<(), CompositionError>;
+
+// An error that has a number in REFUSALS.md.
+pub trait Refusal: Copy {
+    ghost number_of: { Self → ℕ };
+
+    fn number(self) -> u64
+        ensures { result ≡ number_of self };
 }
 
-impl Outcome {
-    pub fn is_accepted(self) -> bool
-        ensures { result ≡ is_accepted self }
-    {
-        match self {
-            Outcome::Accepted => true,
-            Outcome::Refused(_) => false,
-        }
-    }
+impl Refusal for CompositionError {
+    ghost number_of = { error_number };
 
-    // The first refusal of two checks.
-    pub fn then(self, next: Outcome) -> Outcome
-        ensures { result ≡ then_refusal self next }
-    {
-        match self {
-            Outcome::Accepted => next,
-            Outcome::Refused(error) => Outcome::Refused(error),
-        }
+    fn number(self) -> u64 {
+        self as u64
     }
 }
 
-pub fn refuse_if(test: bool, error: CompositionError) -> Outcome
+pub fn refuse_if<E: Copy>(test: bool, error: E) -> Result<(), E>
     ensures { result ≡ refusal_if test error }
 {
-    if test {
-        return Outcome::Refused(error);
+    if test { Err(error) } else { Ok(()) }
+}
+
+// REFUSALS.md's number of an answer: 0 is accepted.
+pub fn number<E: Refusal>(outcome: Result<(), E>) -> u64
+    ensures { result ≡ answer_number E.number_of outcome }
+{
+    match outcome {
+        Ok(()) => 0,
+        Err(error) => error.number(),
     }
-    Outcome::Accepted
 }
 
 // What a handle that is not live refuses.
@@ -78,50 +78,8 @@ pub fn refuse_status(
     ensures { result ≡ status_refusal status invalid stale }
 {
     match status {
-        SlotStatus::Live => Outcome::Accepted,
-        SlotStatus::Invalid => Outcome::Refused(invalid),
-        SlotStatus::Stale => Outcome::Refused(stale),
-    }
-}
-
-// REFUSALS.md's number of an error.
-pub fn error_number(error: CompositionError) -> u64
-    ensures { result ≡ error_number error }
-{
-    match error {
-        CompositionError::InvalidConfig => 1,
-        CompositionError::InvalidOwner => 2,
-        CompositionError::Capacity => 3,
-        CompositionError::PerViewCapacity => 4,
-        CompositionError::InvalidWindow => 5,
-        CompositionError::StaleWindow => 6,
-        CompositionError::WindowInUse => 7,
-        CompositionError::InvalidView => 8,
-        CompositionError::StaleView => 9,
-        CompositionError::ViewInUse => 10,
-        CompositionError::InvalidSurface => 11,
-        CompositionError::StaleSurface => 12,
-        CompositionError::InvalidGeometry => 13,
-        CompositionError::InvalidMetrics => 14,
-        CompositionError::InvalidSurfaceState => 15,
-        CompositionError::StaleSurfaceGeneration => 16,
-        CompositionError::WrongView => 17,
-        CompositionError::NotInteractive => 18,
-        CompositionError::TextUnsupported => 19,
-        CompositionError::RevisionConflict => 20,
-        CompositionError::RevisionExhausted => 21,
-        CompositionError::GenerationExhausted => 22,
-        CompositionError::PortLimit => 41,
-        CompositionError::Damaged => 42,
-    }
-}
-
-// REFUSALS.md's number of an answer: 0 is accepted.
-pub fn number(outcome: Outcome) -> u64
-    ensures { result ≡ number_of outcome }
-{
-    match outcome {
-        Outcome::Accepted => 0,
-        Outcome::Refused(error) => error_number(error),
+        SlotStatus::Live => Ok(()),
+        SlotStatus::Invalid => Err(invalid),
+        SlotStatus::Stale => Err(stale),
     }
 }

@@ -1,229 +1,110 @@
 // The layers of a view: its panels from the lowest z_order to the highest, ties by handle.
-ghost use Rattle.std.specs.Prelude.{◌≡◌, cond, false, [], ◌++◌, ◌+◌, ◌≤◌, ◌<◌, length};
-ghost use Rattle.std.specs.Int.Signed.{lt_z};
-ghost use Rattle.lists.specs.Lists.{keep, all};
-ghost use Rattle.lists.specs.Orders.{lex_both};
-ghost use Rattle.lists.specs.Tables.{entries_of, packed, pushed};
-ghost use Rattle.handles.specs.Handles.{handle_lt, same_handle};
-ghost use Rattle.handles.specs.Slots.{lookup_of};
-ghost use Rattle.records.specs.Layers.{layers, layer_lt, layer_passes, layers_with, layers_without, layers_rise, is_live, is_layer_of, records_of};
+ghost use Rattle.std.specs.Prelude.{◌≡◌, [], map, get_or};
+ghost use Rattle.std.specs.List.{fold};
+ghost use Rattle.lists.specs.Lists.{all};
+ghost use Rattle.lists.specs.Tables.{table, entries_of, packed, pushed_within};
+ghost use Rattle.records.specs.Surfaces.{no_surface};
+ghost use Rattle.records.specs.Layers.{layers as layer_table, z_of, layer_lt, layers_with, layers_without, layers_rise, is_layer_of, records_of};
 
 use crate::surface::{SurfaceRecord, SurfaceTable};
 use handles::GenerationalHandle;
-use handles::arena::{Arena, SlotStatus};
+use handles::arena::SlotStatus;
+use lists::array::item_or;
+use lists::table::{Blank, Table};
 
-#[repr(C)]
-#[derive(Clone, Copy)]
-pub struct Layers {
-    pub items: [GenerationalHandle; 16],
-    pub len: usize,
-}
+// The panels of a view.
+pub type Layers = Table<GenerationalHandle, 16>;
 
-// Which layers a pass keeps: those below a panel, above it, or all others.
-#[derive(Clone, Copy)]
-pub enum LayerTest {
-    Below(GenerationalHandle),
-    Above(GenerationalHandle),
-    Other(GenerationalHandle),
-}
-
-fn is_lower(a: SurfaceRecord, b: SurfaceRecord) -> bool
-    ensures { result ≡ lt_z a.descriptor.z_order b.descriptor.z_order }
+fn record_at(records: &[SurfaceRecord; 64], surface: GenerationalHandle) -> SurfaceRecord
+    ensures { result ≡ get_or records.now surface.index no_surface }
 {
-    a.descriptor.z_order < b.descriptor.z_order
+    item_or(records, surface.index as usize, SurfaceRecord::BLANK)
 }
 
-// Whether a panel lies below another, by their records and handles.
-fn record_lt(
-    low: SurfaceRecord,
-    high: SurfaceRecord,
-    a: GenerationalHandle,
-    b: GenerationalHandle,
-) -> bool
-    ensures { result ≡ lex_both lt_z handle_lt (low.descriptor.z_order, a) (high.descriptor.z_order, b) }
+fn z_order(records: &[SurfaceRecord; 64], surface: GenerationalHandle) -> i32
+    ensures { result ≡ z_of records.now surface }
 {
-    if is_lower(low, high) {
-        return true;
-    }
-    if is_lower(high, low) {
-        return false;
-    }
-    handles::handle_lt(a, b)
+    record_at(records, surface).descriptor.z_order
 }
 
 // Whether a panel lies below another.
-pub fn layer_lt(records: [SurfaceRecord; 64], a: GenerationalHandle, b: GenerationalHandle) -> bool
-    ensures { result ≡ layer_lt records a b }
+#[tactic(auto, unfolding(crate::specs::Layers::layer_lt))]
+pub fn layer_lt(records: &[SurfaceRecord; 64], a: GenerationalHandle, b: GenerationalHandle) -> bool
+    ensures { result ≡ layer_lt records.now a b }
 {
-    let low = crate::surface::record_at(records, a.index as usize);
-    let high = crate::surface::record_at(records, b.index as usize);
-    record_lt(low, high, a, b)
+    (z_order(records, a), a) < (z_order(records, b), b)
 }
 
-fn passes(records: [SurfaceRecord; 64], test: LayerTest, at: GenerationalHandle) -> bool
-    ensures { result ≡ layer_passes records test at }
+// Whether a layer is a live panel of a view.
+fn is_layer_of(surfaces: SurfaceTable, view: GenerationalHandle, at: GenerationalHandle) -> bool
+    ensures { result ≡ is_layer_of surfaces view at }
 {
-    match test {
-        LayerTest::Below(h) => layer_lt(records, at, h),
-        LayerTest::Above(h) => layer_lt(records, h, at),
-        LayerTest::Other(h) => !handles::same_handle(h, at),
-    }
+    matches!(handles::arena::lookup(surfaces.arena, at), SlotStatus::Live)
+        && surfaces.descriptor(at).view == view
 }
 
-// Whether a layer is a live panel of a view, by the slots of the panels and its record.
-fn is_layer_of(
-    arena: Arena,
-    record: SurfaceRecord,
-    view: GenerationalHandle,
-    at: GenerationalHandle,
-) -> bool
-    ensures { result ≡ cond (is_live (lookup_of arena at)) (same_handle «record».descriptor.view view) false }
+// The layers with a panel in its place, or as they were where there is no room.
+pub fn layers_with(
+    layers: Layers,
+    records: &[SurfaceRecord; 64],
+    surface: GenerationalHandle,
+) -> Layers
+    ensures { result ≡ layers_with records.now surface layers }
 {
-    match handles::arena::lookup(arena, at) {
-        SlotStatus::Live => handles::same_handle(record.descriptor.view, view),
-        SlotStatus::Invalid => false,
-        SlotStatus::Stale => false,
+    if layers.count() >= 16 {
+        return layers;
     }
+    let below = layers.retain(|at| layer_lt(records, *at, surface));
+    let above = layers.retain(|at| layer_lt(records, surface, *at));
+    below
+        .push_within(surface)
+        .extend(above.entries().iter().copied())
 }
 
-impl Layers {
-    pub fn new() -> Self
-        ensures { result ≡ packed layers [] }
-    {
-        let none = GenerationalHandle {
-            index: 0,
-            generation: 0,
-        };
-        Self {
-            items: [none; 16],
-            len: 0,
-        }
-    }
+// The layers without a panel.
+pub fn layers_without(layers: Layers, surface: GenerationalHandle) -> Layers
+    ensures { result ≡ layers_without surface layers }
+{
+    layers.retain(|at| *at != surface)
+}
 
-    pub fn count(self) -> usize
-        ensures { result ≡ length (entries_of layers self) }
-    {
-        let n = self.len;
-        if n < 16 {
-            return n;
-        }
-        16
-    }
+// Whether the layers are in layer order, none twice.
+pub fn are_rising(layers: Layers, records: &[SurfaceRecord; 64]) -> bool
+    ensures { result ≡ layers_rise records.now layers }
+{
+    layers
+        .entries()
+        .is_sorted_by(|low, high| layer_lt(records, *low, *high))
+}
 
-    fn push(self, surface: GenerationalHandle) -> Self
-        requires { self.len < 16 }
-        ensures { result ≡ pushed layers self surface }
-    {
-        let at = self.len;
-        let mut next = self;
-        next.items[at] = surface;
-        next.len = at + 1;
-        next
-    }
+// Whether each layer is a live panel of a view.
+pub fn are_layers_of(layers: Layers, surfaces: SurfaceTable, view: GenerationalHandle) -> bool
+    ensures { result ≡ all (is_layer_of surfaces view) (entries_of layer_table layers) }
+{
+    layers
+        .entries()
+        .iter()
+        .all(|at| is_layer_of(surfaces, view, *at))
+}
 
-    // The layers with those of another list that pass a test put after them.
-    fn extend(self, from: Layers, records: [SurfaceRecord; 64], test: LayerTest) -> Self
-        requires self_value { self ≡ packed layers (entries_of layers self) }
-        requires from_len_bound { length (entries_of layers self)
-            + length (keep (layer_passes records test) (entries_of layers from))
-            ≤ 16 }
-        ensures { result ≡ packed layers
-            (entries_of layers self ++ keep (layer_passes records test) (entries_of layers from)) }
-    {
-        let mut next = self;
-        let n = from.count();
-        let mut i = 0;
-        while i < n {
-            let at = from.items[i];
-            if passes(records, test, at) {
-                next = next.push(at);
-            }
-            i += 1;
-        }
-        next
+fn record_table(
+    records: &[SurfaceRecord; 64],
+    layers: &[GenerationalHandle],
+) -> Table<SurfaceRecord, 16>
+    ensures { result ≡ fold (pushed_within (table 16 no_surface)) (packed (table 16 no_surface) [])
+        (map (λ h. get_or records.now h.index no_surface) layers.now) }
+{
+    let mut found = Table::new();
+    for at in layers {
+        found.push_in_place(record_at(records, *at));
     }
+    found
+}
 
-    fn retain(self, records: [SurfaceRecord; 64], test: LayerTest) -> Self
-        ensures { result ≡ packed layers (keep (layer_passes records test) (entries_of layers self)) }
-    {
-        Layers::new().extend(self, records, test)
-    }
-
-    // The layers with a panel in its place, or as they were where there is no room.
-    pub fn insert(self, records: [SurfaceRecord; 64], surface: GenerationalHandle) -> Self
-        ensures { result ≡ layers_with records surface self }
-    {
-        if self.count() < 16 {
-            let low = self.retain(records, LayerTest::Below(surface));
-            return low
-                .push(surface)
-                .extend(self, records, LayerTest::Above(surface));
-        }
-        self
-    }
-
-    // The layers without a panel.
-    pub fn remove(self, records: [SurfaceRecord; 64], surface: GenerationalHandle) -> Self
-        ensures { result ≡ layers_without surface self }
-    {
-        self.retain(records, LayerTest::Other(surface))
-    }
-
-    // The record of each layer, by its place, and blanks after them: so a loop over the layers reads a small array of
-    // its own, and hands on no table.
-    pub fn records_of(self, records: [SurfaceRecord; 64]) -> [SurfaceRecord; 16]
-        ensures { result ≡ records_of records self }
-    {
-        let n = self.count();
-        let mut found = [crate::surface::blank(); 16];
-        let mut i = 0;
-        while i < n {
-            let at = self.items[i];
-            let slot = at.index as usize;
-            let mut record = crate::surface::blank();
-            if slot < 64 {
-                record = records[slot];
-            }
-            found[i] = record;
-            i += 1;
-        }
-        found
-    }
-
-    // Whether the layers are in layer order, none twice.
-    pub fn is_rising(self, records: [SurfaceRecord; 64]) -> bool
-        ensures { result ≡ layers_rise records self }
-    {
-        let n = self.count();
-        let found = self.records_of(records);
-        let mut i = 0;
-        while i + 1 < n {
-            let low = self.items[i];
-            let high = self.items[i + 1];
-            if record_lt(found[i], found[i + 1], low, high) {} else {
-                return false;
-            }
-            i += 1;
-        }
-        true
-    }
-
-    // Whether each layer is a live panel of a view.
-    pub fn are_of(self, surfaces: SurfaceTable, view: GenerationalHandle) -> bool
-        ensures { result ≡ all (is_layer_of surfaces view) (entries_of layers self) }
-    {
-        let n = self.count();
-        let arena = surfaces.arena;
-        let records = surfaces.records;
-        let found = self.records_of(records);
-        let mut ok = true;
-        let mut i = 0;
-        while i < n {
-            let at = self.items[i];
-            let of_view = is_layer_of(arena, found[i], view, at);
-            ok = lists::both(ok, of_view);
-            i += 1;
-        }
-        ok
-    }
+// The record of each layer, by its place, and blanks after them: so a loop over the layers reads a small array of its
+// own, and hands on no table.
+pub fn records_of(layers: Layers, records: &[SurfaceRecord; 64]) -> [SurfaceRecord; 16]
+    ensures { result ≡ records_of records.now layers }
+{
+    record_table(records, layers.entries()).items
 }

@@ -6,6 +6,7 @@
 pub mod error;
 pub mod layers;
 pub mod shortcut;
+pub mod slot_table;
 pub mod surface;
 pub mod trace;
 pub mod view;

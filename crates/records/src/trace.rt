@@ -1,32 +1,33 @@
 // The last arbitrations, with their events, hits and deliveries.
-ghost use Rattle.std.specs.Prelude.{◌≡◌, []};
-ghost use Rattle.lists.specs.Tables.{packed};
-ghost use Rattle.records.specs.Traces.{hits, deliveries, traces};
+#![tactic(auto, unfolding(lists::specs::Tables::packed))]
 
-use handles::{GenerationalHandle, OptionalHandle};
+ghost use Rattle.records.specs.Traces.{no_delivery, no_trace};
+
+use handles::GenerationalHandle;
+use lists::table::{Blank, Table};
 use maps::keys::CompositionPointerId;
 
 // The Rust's events; the hits of the two stack events stand beside them.
 #[derive(Clone, Copy)]
 pub enum ArbitrationEvent {
     Pointer {
-        hit: OptionalHandle,
+        hit: Option<GenerationalHandle>,
     },
     PointerStack,
     PointerFor {
         pointer: CompositionPointerId,
-        hit: OptionalHandle,
+        hit: Option<GenerationalHandle>,
     },
     PointerStackFor {
         pointer: CompositionPointerId,
     },
     Keyboard,
     KeyboardFor {
-        target: OptionalHandle,
+        target: Option<GenerationalHandle>,
     },
     Gamepad,
     GamepadFor {
-        target: OptionalHandle,
+        target: Option<GenerationalHandle>,
     },
     Text,
     Shortcut,
@@ -35,12 +36,8 @@ pub enum ArbitrationEvent {
     },
 }
 
-#[repr(C)]
-#[derive(Clone, Copy)]
-pub struct Hits {
-    pub items: [GenerationalHandle; 16],
-    pub len: usize,
-}
+// What is under a point, the topmost panel first.
+pub type Hits = Table<GenerationalHandle, 16>;
 
 #[repr(C)]
 #[derive(Clone, Copy)]
@@ -49,12 +46,7 @@ pub struct InputDelivery {
     pub observed: bool,
 }
 
-#[repr(C)]
-#[derive(Clone, Copy)]
-pub struct Deliveries {
-    pub items: [InputDelivery; 16],
-    pub len: usize,
-}
+pub type Deliveries = Table<InputDelivery, 16>;
 
 #[derive(Clone, Copy)]
 pub struct CompositionTrace {
@@ -63,70 +55,40 @@ pub struct CompositionTrace {
     pub event: ArbitrationEvent,
     pub hits: Hits,
     pub deliveries: Deliveries,
-    pub consumed_by: OptionalHandle,
+    pub consumed_by: Option<GenerationalHandle>,
 }
 
-#[derive(Clone, Copy)]
-pub struct Traces {
-    pub items: [CompositionTrace; 32],
-    pub len: usize,
+pub type Traces = Table<CompositionTrace, 32>;
+
+impl InputDelivery {
+    // What stands in an unused place.
+    pub const ZERO: Self = InputDelivery {
+        surface: GenerationalHandle::ZERO,
+        observed: false,
+    };
 }
 
-impl Hits {
-    pub fn new() -> Self
-        ensures { result ≡ packed hits [] }
-    {
-        let none = GenerationalHandle {
-            index: 0,
-            generation: 0,
-        };
-        Self {
-            items: [none; 16],
+impl Blank for InputDelivery {
+    ghost BLANK = { no_delivery };
+
+    const BLANK: Self = Self::ZERO;
+}
+
+impl Blank for CompositionTrace {
+    ghost BLANK = { no_trace };
+
+    const BLANK: Self = CompositionTrace {
+        revision: 0,
+        view: GenerationalHandle::ZERO,
+        event: ArbitrationEvent::Keyboard,
+        hits: Table {
+            items: [GenerationalHandle::ZERO; 16],
             len: 0,
-        }
-    }
-}
-
-impl Deliveries {
-    pub fn new() -> Self
-        ensures { result ≡ packed deliveries [] }
-    {
-        let surface = GenerationalHandle {
-            index: 0,
-            generation: 0,
-        };
-        let none = InputDelivery {
-            surface,
-            observed: false,
-        };
-        Self {
-            items: [none; 16],
+        },
+        deliveries: Table {
+            items: [InputDelivery::ZERO; 16],
             len: 0,
-        }
-    }
-}
-
-impl Traces {
-    pub fn new() -> Self
-        ensures { result ≡ packed traces [] }
-    {
-        let view = GenerationalHandle {
-            index: 0,
-            generation: 0,
-        };
-        let hits = Hits::new();
-        let deliveries = Deliveries::new();
-        let none = CompositionTrace {
-            revision: 0,
-            view,
-            event: ArbitrationEvent::Keyboard,
-            hits,
-            deliveries,
-            consumed_by: OptionalHandle::None,
-        };
-        Self {
-            items: [none; 32],
-            len: 0,
-        }
-    }
+        },
+        consumed_by: None,
+    };
 }

@@ -1,9 +1,9 @@
 -- What `Left` says is what the calls' definitions leave: by cases of keys and statuses, and for a device slot by slot.
+use Rattle.std.specs.Prelude.{is_ok, Option, None, Some}
 use Prim.Native.Nat.{ℕ, zero, suc, ◌+◌, ◌<◌}
 use mathlib.Core.Path.{◌≡◌, refl, sym, ap, ◌∙◌}
 use mathlib.Core.Bool.{Bool, true, false, cond, not, ◌&&◌, ◌||◌}
 use mathlib.Core.List.{List, [], ◌∷◌, reverse}
-use mathlib.Core.Option.{Option, none, some}
 use native.Mathlib.Nat.{zero-add}
 use native.Mathlib.Omega.{arith}
 use borrow.Author.Tests.{le-ltb, lt-ltb, ltb-true, ltb-false, eqb-true, eqb-false, ne_eqb}
@@ -17,8 +17,6 @@ use Rattle.lists.proofs.TableLaws.{entries_packed}
 use Rattle.handles.specs.declared.arena.SlotStatus.{SlotStatus}
 use Rattle.handles.specs.declared.arena.SlotStatus.TheVariants.{Live, Invalid, Stale}
 use Rattle.handles.specs.declared.GenerationalHandle.{GenerationalHandle}
-use Rattle.handles.specs.declared.OptionalHandle.{OptionalHandle}
-use Rattle.handles.specs.declared.OptionalHandle.TheVariants.{None}
 use Rattle.handles.specs.Handles.{holds_handle}
 use Rattle.handles.specs.Slots.{slot_at}
 use Rattle.maps.specs.declared.bindings.Binding.{Binding}
@@ -30,23 +28,22 @@ use Rattle.maps.specs.Keys.{binding_key, device_same}
 use Rattle.maps.specs.MapTables.{is_some, retained}
 use Rattle.records.specs.declared.error.CompositionError.TheVariants.{InvalidSurface, StaleSurface}
 use Rattle.records.specs.declared.view.ViewRecord.{ViewRecord}
-use Rattle.records.specs.declared.view.ViewTable.{ViewTable}
-use Rattle.records.specs.Errors.{is_accepted, status_refusal}
+use Rattle.records.specs.Views.{ViewTable, no_view, view_at, view_slots, with_view, with_pointer_capture, with_pointer_captures}
+use Rattle.records.specs.Errors.{status_refusal}
 use Rattle.records.specs.Layers.{layers, is_live, layers_without}
 use Rattle.records.specs.Surfaces.{is_interactive, surface_status, descriptor_of}
-use Rattle.records.specs.Views.{no_view, view_at, view_slots, with_view, with_pointer_capture, with_pointer_captures}
 use Rattle.composition_state.specs.declared.registry.CompositionRegistry.{CompositionRegistry}
 use Rattle.composition_state.specs.Registry.{with_views}
 use Rattle.composition_input.specs.Captures.{loses_primary as has_primary, left_view, cleared_at, device_cleared}
 use Rattle.composition_close.specs.Close.{detached}
-use Rattle.composition_close.specs.Detach.{had_capture, takes_focus as may_be_focused, optional, topmost, detached_view}
+use Rattle.composition_close.specs.Detach.{had_capture, takes_focus as may_be_focused, topmost, detached_view}
 use Rattle.input_router.specs.declared.router.PlatformInputRouter.{PlatformInputRouter}
 use Rattle.input_router.specs.declared.view_releases.ViewReleased.{ViewReleased}
 use Rattle.input_router.specs.Releases.{without_device_presses}
 use Rattle.input_router.specs.Router.{presses_of}
-use Rattle.input_router.specs.ViewReleases.{closed_binding, release_view_to, release_view}
+use Rattle.input_router.specs.ViewReleases.{release_view_to, release_view}
 use Rattle.book.specs.Ids.{is_same_device, press_device}
-use Rattle.refusals.specs.Left.{any, drop_presses, is_press_by, is_press_in, kind_of, closed_owner, is_kind_before, in_every_view, changed_from, is_primary, primary_device, is_capture_by, loses_primary, without_device, captures_in, layers_but, takes_focus, as_handle, is_capture_on, field_left, without_panel, panel_out}
+use Rattle.refusals.specs.Left.{any, drop_presses, is_press_by, is_press_in, kind_of, closed_owner, is_kind_before, in_every_view, changed_from, is_primary, primary_device, is_capture_by, loses_primary, without_device, captures_in, layers_but, takes_focus, is_capture_on, field_left, without_panel, panel_out}
 
 -- ---- presses
 press_by : (d : InputDeviceId) (k : BindingKey) → is_same_device (press_device k) d ≡ device_same (binding_key k) d
@@ -64,7 +61,7 @@ kind_is (Key k) = refl
 kind_is (Gamepad d) = refl
 
 -- a panel that is looked up without refusal is live
-live_is : (s : SlotStatus) → is_accepted (status_refusal s InvalidSurface StaleSurface) ≡ is_live s
+live_is : (s : SlotStatus) → is_ok (status_refusal s InvalidSurface StaleSurface) ≡ is_live s
 live_is Live = refl
 live_is Invalid = refl
 live_is Stale = refl
@@ -72,14 +69,14 @@ live_is Stale = refl
 module _ (r : CompositionRegistry) (t : PlatformInputRouter) (view : GenerationalHandle) where
   -- the release of a view, by the closed owner that it meets
   abbrev pub release_to : Option Binding → ViewReleased
-  release_to owner = release_view_to t r.surfaces view (closed_binding owner)
+  release_to owner = release_view_to t r.surfaces view owner
 
   pub owner_met : release_view t r.surfaces view ≡ release_to (closed_owner r t)
   unfolding release_view
   owner_met = λ i. release_to (first (λ x. not (live_is (surface_status r.surfaces x.surface) i)) (presses_of t))
 
   pub before_owner : (owner : Binding)
-      → (release_to (some owner)).router ≡ drop_presses (λ x. is_kind_before owner x && is_press_in r view x) t
+      → (release_to (Some owner)).router ≡ drop_presses (λ x. is_kind_before owner x && is_press_in r view x) t
   before_owner owner =
       λ i. drop_presses (λ x. ltb (kind_is x.key i) (kind_is owner.key i) && is_press_in r view x) t
 
@@ -194,15 +191,11 @@ module _ (d : InputDeviceId) where
   device_left r = ap (λ (t : ViewTable). with_views t r) (cleared_to_lem r.views (view_slots r.views))
 
 -- ---- the view without a panel
-handle_is : (o : Option GenerationalHandle) → optional o ≡ as_handle o
-handle_is none = refl
-handle_is (some h) = refl
-
 takes_is : (live b : Bool) → cond live b false ≡ (live && b)
 takes_is true b = refl
 takes_is false b = refl
 
-moved : (had : Bool) (x y f : OptionalHandle) → x ≡ y → cond had (cond had x None) f ≡ cond had y f
+moved : (had : Bool) (x y f : Option GenerationalHandle) → x ≡ y → cond had (cond had x None) f ≡ cond had y f
 moved true x y f e = e
 moved false x y f e = refl
 
@@ -212,12 +205,11 @@ module _ (r : CompositionRegistry) (h : GenerationalHandle) (v : ViewRecord) whe
       takes_is (is_live (surface_status r.surfaces at)) (is_interactive (descriptor_of r.surfaces at).input)
 
   topmost_is : topmost r.surfaces (layers_without h v.surfaces)
-      ≡ as_handle (first (takes_focus r) (reverse (layers_but h v)))
+      ≡ first (takes_focus r) (reverse (layers_but h v))
   unfolding topmost
   topmost_is =
       rw (entries_packed layers _)
-      (handle_is (first (may_be_focused r.surfaces) (reverse (layers_but h v)))
-      ∙ λ i. as_handle (first (λ at. may_focus at i) (reverse (layers_but h v))))
+      (λ i. first (λ at. may_focus at i) (reverse (layers_but h v)))
 
   field_is : cond (had_capture v h) None v.pointer_capture ≡ field_left h v
   unfolding had_capture

@@ -1,21 +1,21 @@
 -- Which numbers a chain of checks answers: by the cases of each check.
+use Rattle.std.specs.Prelude.{Ok, Err}
+use Rattle.std.specs.Result.{result_and}
 use Prim.Native.Nat.{ℕ}
 use mathlib.Core.Path.{◌≡◌, refl}
 use mathlib.Core.Bool.{Bool, true, false, not}
 use lib.Dec.{eqb}
 use Rattle.handles.specs.Slots.{lookup_of}
-use Rattle.handles.specs.declared.arena.ReleaseOutcome.{ReleaseOutcome}
-use Rattle.handles.specs.declared.arena.ReleaseOutcome.TheVariants as release
+use Rattle.handles.specs.Slots.{ReleaseOutcome}
+use Rattle.handles.specs.declared.arena.ReleaseError.TheVariants as release
 use Rattle.handles.specs.declared.arena.SlotStatus.{SlotStatus}
 use Rattle.handles.specs.declared.arena.SlotStatus.TheVariants.{Live, Invalid, Stale}
 use Rattle.handles.specs.declared.GenerationalHandle.{GenerationalHandle}
 use Rattle.records.specs.declared.error.CompositionError.{CompositionError}
 use Rattle.records.specs.declared.error.CompositionError.TheVariants.{InvalidWindow, StaleWindow, InvalidView, StaleView, InvalidSurface, StaleSurface, NotInteractive, RevisionConflict, Damaged}
-use Rattle.records.specs.declared.error.Outcome.{Outcome}
-use Rattle.records.specs.declared.error.Outcome.TheVariants.{Accepted, Refused}
 use Rattle.composition_state.specs.declared.registry.CompositionRegistry.{CompositionRegistry}
 use Rattle.composition_state.specs.Damage.{is_sound, damage_refusal}
-use Rattle.records.specs.Errors.{error_number, then_refusal, refusal_if, status_refusal}
+use Rattle.records.specs.Errors.{error_number, refusal_if, status_refusal, Outcome}
 use Rattle.composition_state.specs.Registry.{window_refusal, conflict_refusal}
 use Rattle.records.specs.Surfaces.{is_interactive, surface_status, surface_refusal}
 use Rattle.records.specs.Views.{view_status, view_refusal}
@@ -24,19 +24,19 @@ use Rattle.composition_input.specs.Focus.{described, interactive_refusal, entry_
 
 -- an answer that is accepted, or whose number passes a test
 abbrev allows : (ℕ → Bool) → Outcome → Bool
-allows p Accepted = true
-allows p (Refused e) = p (error_number e)
+allows p (Ok _) = true
+allows p (Err e) = p (error_number e)
 
 pub record Within (p : ℕ → Bool) (o : Outcome) : Type 0 where
   pub is : allows p o ≡ true
 
 module _ (p : ℕ → Bool) where
-  pub accepted : Within p Accepted
+  pub accepted : Within p (Ok tt)
   accepted = record { is = refl }
 
-  both_within : (a b : Outcome) → Within p a → Within p b → Within p (then_refusal a b)
-  both_within Accepted b f g = g
-  both_within (Refused e) b f g = f
+  both_within : (a b : Outcome) → Within p a → Within p b → Within p (result_and a b)
+  both_within (Ok _) b f g = g
+  both_within (Err e) b f g = f
 
   pub if_within : (b : Bool) (e : CompositionError) → p (error_number e) ≡ true → Within p (refusal_if b e)
   if_within true e h = record { is = h }
@@ -47,7 +47,12 @@ module _ (p : ℕ → Bool) where
   status_within Invalid e f h k = record { is = h }
   status_within Stale e f h k = record { is = k }
 
-pub then_within : {p : ℕ → Bool} {a b : Outcome} → Within p a → Within p b → Within p (then_refusal a b)
+-- the value that a call makes does not alter whether it is accepted
+pub with_value : {T : Type 0} (p : ℕ → Bool) (v : T) (o : Outcome) → Within p o → Within p (result_and (result_and o (Ok v)) (Ok tt))
+with_value p v (Ok _) f = f
+with_value p v (Err e) f = f
+
+pub then_within : {p : ℕ → Bool} {a b : Outcome} → Within p a → Within p b → Within p (result_and a b)
 then_within {p} {a} {b} f g = both_within p a b f g
 
 -- ---- the checks that many calls make answer no 21
@@ -61,10 +66,10 @@ pub conflict : (m n : ℕ) → Other (conflict_refusal m n)
 conflict m n = if_within is_other (not (eqb m n)) RevisionConflict refl
 
 pub exhausted : (o : ReleaseOutcome) → Other (exhausted_refusal o)
-exhausted release.Released = accepted is_other
-exhausted release.Invalid = accepted is_other
-exhausted release.Stale = accepted is_other
-exhausted release.GenerationExhausted = record { is = refl }
+exhausted (Ok _) = accepted is_other
+exhausted (Err release.Invalid) = accepted is_other
+exhausted (Err release.Stale) = accepted is_other
+exhausted (Err release.GenerationExhausted) = record { is = refl }
 
 module _ (r : CompositionRegistry) where
   pub damage : Other (damage_refusal r)

@@ -1,4 +1,6 @@
 -- What a refusal of `step` leaves is what the refusal of its call leaves, since a refusal of the registry is carried whole.
+use Rattle.std.specs.Prelude.{Result, Ok, Err}
+use Rattle.std.specs.Result.{result_unwrap_or}
 use mathlib.Core.Path.{◌≡◌, refl, sym, ap}
 use mathlib.Core.Bool.{Bool, true, false, cond, not, ◌&&◌}
 use lib.Dec.{eqb}
@@ -7,29 +9,26 @@ use Rattle.handles.specs.declared.GenerationalHandle.{GenerationalHandle}
 use Rattle.maps.specs.MapTables.{retained}
 use Rattle.maps.specs.Bindings.{bindings}
 use Rattle.records.specs.declared.error.CompositionError.{CompositionError}
-use Rattle.records.specs.declared.error.Outcome.{Outcome}
-use Rattle.records.specs.declared.error.Outcome.TheVariants as composition
 use Rattle.composition_state.specs.declared.registry.CompositionRegistry.{CompositionRegistry}
-use Rattle.records.specs.declared.trace.ArbitrationEvent.{ArbitrationEvent}
-use Rattle.records.specs.declared.trace.Hits.{Hits}
-use Rattle.records.specs.Errors.{error_number}
+use Rattle.records.specs.Errors.{error_number, Outcome}
 use Rattle.composition_input.specs.Captures.{release_device_pointer_captures}
-use Rattle.composition_arbitration.specs.Arbitration.{concluded, arbitrated}
+use Rattle.composition_arbitration.specs.declared.arbitrate.ArbitrationResult.{ArbitrationResult}
+use Rattle.composition_state.specs.Registry.{outcome_of}
+use Rattle.composition_arbitration.specs.Arbitration.{arbitrated}
 use Rattle.composition_arbitration.proofs.CallClaimLaws as arbitrations
 use Rattle.composition_close.specs.Close.{close_surface}
 use Rattle.composition_close.specs.Shutdown.{shutdown_of}
 use Rattle.composition_close.proofs.ClaimLaws as closes
 use Rattle.input_events.specs.declared.error.PlatformInputError.{PlatformInputError}
 use Rattle.input_events.specs.declared.error.PlatformInputError.TheVariants.{Damaged}
-use Rattle.input_events.specs.declared.error.RouterOutcome.TheVariants.{Accepted, Refused}
 use Rattle.input_events.specs.RouterErrors.{router_error_number, from_composition}
 use Rattle.input_router.specs.declared.releases.Released.{Released}
 use Rattle.input_router.specs.Damage.{is_router_sound}
 use Rattle.release_lists.specs.Releases.{is_on, by_panel}
-use Rattle.input_router.specs.Releases.{released, damaged_release, release_surface, release_all}
+use Rattle.input_router.specs.Releases.{release_outcome, releases_of, released, damaged_release, release_surface, release_all}
 use Rattle.input_router.specs.Router.{empty_router, with_bindings, presses_of}
 use Rattle.input_releases.specs.declared.answer.PlatformInputRoutingReport.{PlatformInputRoutingReport}
-use Rattle.input_releases.specs.Answers.{no_report}
+use Rattle.input_releases.specs.Answers.{no_result, no_report}
 use Rattle.calls.specs.declared.call.Call.{Call}
 use Rattle.calls.specs.declared.call.Call.TheVariants.{Panel, Input, ReleaseDevice, Shortcut, Arbitrate, Close, Router, Read}
 use Rattle.calls.specs.declared.call.CloseCall.TheVariants as close
@@ -44,36 +43,35 @@ use Rattle.refusals.specs.Refusals.{IsRefused, written_with, StepRefusals}
 use Rattle.refusals.specs.Written.{nothing, change_if, is_own_end, close_written, written_by}
 use Rattle.refusals.proofs.CloseLaws.{close_kept}
 use Rattle.refusals.proofs.InputLaws.{input_late, shortcut_late, device_late}
-use Rattle.refusals.proofs.LateLaws.{accepted≢refused, same_refusal, Kept, at, KeptAt, carried, kept_if}
+use Rattle.refusals.proofs.LateLaws.{accepted≢refused, same_refusal, refused_answer, Kept, at, KeptAt, carried, kept_if}
 use Rattle.refusals.proofs.PanelLaws.{panel_late}
 use Rattle.refusals.proofs.RouteLaws.{route_kept}
 
 -- ---- the calls on the registry
 -- a call that settles
 changed_kept : (c : Counter) (r changed : CompositionRegistry) (b : Bool) (o : Outcome)
-    → ((x : CompositionError) → o ≡ composition.Refused x → r ≡ cond (b && eqb (error_number x) 21) changed c.registry)
-    → (e : PlatformInputError) → from_composition o ≡ Refused e → KeptAt c r (change_if (b && eqb (router_error_number e) 21) changed) (router_error_number e)
+    → ((x : CompositionError) → o ≡ Err x → r ≡ cond (b && eqb (error_number x) 21) changed c.registry)
+    → (e : PlatformInputError) → from_composition o ≡ Err e → KeptAt c r (change_if (b && eqb (router_error_number e) 21) changed) (router_error_number e)
 changed_kept c r changed b o k e q = carried (λ n. KeptAt c r (change_if (b && eqb n 21) changed) n) o (λ x p. kept_if c r changed b (error_number x) (k x p)) e q
 
 -- a call whose every refusal leaves the registry, and has a blank report
-unwritten : (c : Counter) (report : PlatformInputRoutingReport) (r : CompositionRegistry) (o : Outcome) → ((x : CompositionError) → o ≡ composition.Refused x → r ≡ c.registry)
-    → ((x : CompositionError) → o ≡ composition.Refused x → report ≡ no_report) → (e : PlatformInputError) → from_composition o ≡ Refused e → Kept c report (at c r) nothing (router_error_number e)
+unwritten : (c : Counter) (report : PlatformInputRoutingReport) (r : CompositionRegistry) (o : Outcome) → ((x : CompositionError) → o ≡ Err x → r ≡ c.registry)
+    → ((x : CompositionError) → o ≡ Err x → report ≡ no_report) → (e : PlatformInputError) → from_composition o ≡ Err e → Kept c report (at c r) nothing (router_error_number e)
 unwritten c report r o k b e q = carried (λ n. Kept c report (at c r) nothing n) o (λ x p. record { leaves = ap (at c) (k x p); comes_with_lem = refl; unlisted = b x p }) e q
 
-blank_arbitration : (r : CompositionRegistry) (view : GenerationalHandle) (event : ArbitrationEvent) (h : Hits) (x : CompositionError)
-    → (arbitrated r view event h).outcome ≡ composition.Refused x → arbitration_alone (arbitrated r view event h).result ≡ no_report
-unfolding arbitrated concluded arbitration_alone
-blank_arbitration r view event h x p = rw p
+blank_arbitration : (o : Result ArbitrationResult CompositionError) (x : CompositionError) → o ≡ Err x → arbitration_alone (result_unwrap_or o no_result) ≡ no_report
+unfolding arbitration_alone
+blank_arbitration o x p = rw p
 
 -- ---- a router release refuses the damaged router alone, which stays
-module _ (c : Counter) (x : Released) (whole : x.outcome ≡ Accepted) (e : PlatformInputError) where
-  release_kept : (sound : Bool) → (cond sound x (damaged_release c.router)).outcome ≡ Refused e
-      → Kept c (releases_alone (cond sound x (damaged_release c.router)).releases) (record { registry = c.registry; router = (cond sound x (damaged_release c.router)).router }) nothing (router_error_number e)
+module _ (c : Counter) (x : Released) (whole : release_outcome x ≡ Ok tt) (e : PlatformInputError) where
+  release_kept : (sound : Bool) → release_outcome (cond sound x (damaged_release c.router)) ≡ Err e
+      → Kept c (releases_alone (releases_of (cond sound x (damaged_release c.router)))) (record { registry = c.registry; router = (cond sound x (damaged_release c.router)).router }) nothing (router_error_number e)
   unfolding releases_alone
   release_kept true q = accepted≢refused (rw whole at q)
   release_kept false q = record { leaves = refl; comes_with_lem = refl; unlisted = refl }
 
-  damaged_only : (sound : Bool) → (cond sound x (damaged_release c.router)).outcome ≡ Refused e → e ≡ Damaged
+  damaged_only : (sound : Bool) → release_outcome (cond sound x (damaged_release c.router)) ≡ Err e → e ≡ Damaged
   damaged_only true q = accepted≢refused (rw whole at q)
   damaged_only false q = sym (same_refusal q)
 
@@ -95,20 +93,21 @@ kept c (Input x) l e q =
     changed_kept c s.registry (input_change c.registry x) true s.outcome (input_late c.registry x) e q
 kept c (ReleaseDevice a) l e q =
     let s = release_device_pointer_captures c.registry a.device a.device_generation in
-    changed_kept c s.registry (device_change c.registry a) true s.outcome (device_late c.registry a) e q
+    changed_kept c s.registry (device_change c.registry a) true (outcome_of s) (device_late c.registry a) e q
 kept c (Shortcut x) l e q =
     let s = shortcut_step c.registry x l.registrations in
     changed_kept c s.registry (shortcut_change c.registry x l.registrations) true s.outcome (shortcut_late c.registry x l.registrations) e q
 kept c (Arbitrate a) l e q =
     let s = arbitrated c.registry a.view a.event l.hits in
-    unwritten c (arbitration_alone s.result) s.registry s.outcome (arbitrations.refused c.registry a.view a.event l.hits)
-    (blank_arbitration c.registry a.view a.event l.hits) e q
+    unwritten c (arbitration_alone (result_unwrap_or s.outcome no_result)) s.registry (outcome_of s)
+    (λ x p. arbitrations.refused c.registry a.view a.event l.hits x (refused_answer s.outcome x p))
+    (λ x p. blank_arbitration s.outcome x (refused_answer s.outcome x p)) e q
 kept c (Close (close.CloseSurface h)) l e q =
     let s = close_surface c.registry h in
-    carried (λ n. KeptAt c s.registry (close_written c.registry h n) n) s.outcome (close_kept c h) e q
+    carried (λ n. KeptAt c s.registry (close_written c.registry h n) n) (outcome_of s) (close_kept c h) e q
 kept c (Close close.Shutdown) l e q =
     let s = shutdown_of c.registry in
-    unwritten c no_report s.registry s.outcome ((closes.claims).shutdown_refused c.registry) (λ x p. refl) e q
+    unwritten c no_report s.registry (outcome_of s) ((closes.claims).shutdown_refused c.registry) (λ x p. refl) e q
 kept c (Router (router.Route x)) l e q = route_kept c x e q
 kept c (Router (router.ReleaseSurface h)) l e q = release_kept c (of_surface c h) refl e (is_router_sound c.router) q
 kept c (Router router.ReleaseAll) l e q = release_kept c (of_all c) refl e (is_router_sound c.router) q

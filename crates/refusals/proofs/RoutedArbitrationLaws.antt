@@ -1,9 +1,10 @@
 -- Once an event's checks have passed, its arbitration is refused 8/9 of a system shortcut's panel or 21: the registry is whole, the view live, and its hits are at most its layers.
+use Rattle.records.specs.Errors.{Outcome}
+use Rattle.std.specs.Prelude.{Option, None, Some, Ok, Err}
 use Prim.Native.Nat.{ℕ, ◌≤◌}
 use mathlib.Core.Path.{◌≡◌, refl}
 use mathlib.Core.Bool.{Bool, true, false, ◌||◌}
 use mathlib.Core.List.{[], reverse}
-use mathlib.Core.Option.{Option, none, some}
 use native.Mathlib.Omega.{arith}
 use borrow.Author.Tests.{le-ltb}
 use lib.Dec.{eqb, leb, ltb}
@@ -19,28 +20,24 @@ use Rattle.handles.specs.Slots.{lookup_of, live_handles}
 use Rattle.handles.specs.declared.arena.Arena.{Arena}
 use Rattle.handles.specs.declared.arena.SlotStatus.TheVariants.{Live}
 use Rattle.handles.specs.declared.GenerationalHandle.{GenerationalHandle}
-use Rattle.handles.specs.declared.OptionalHandle.{OptionalHandle}
 use Rattle.handles.proofs.LookupLaws.{live_facts}
 use Rattle.records.specs.declared.error.CompositionError.TheVariants.{InvalidView, StaleView, RevisionExhausted}
-use Rattle.records.specs.declared.error.Outcome.{Outcome}
-use Rattle.records.specs.declared.error.Outcome.TheVariants.{Accepted, Refused}
-use Rattle.composition_state.specs.declared.registry.Changed.{Changed}
+use Rattle.composition_state.specs.Registry.{Changed}
 use Rattle.composition_state.specs.declared.registry.CompositionRegistry.{CompositionRegistry}
-use Rattle.records.specs.declared.surface.SurfaceTable.{SurfaceTable}
+use Rattle.records.specs.Surfaces.{SurfaceTable, descriptor_of}
 use Rattle.records.specs.declared.trace.ArbitrationEvent.{ArbitrationEvent}
 use Rattle.records.specs.declared.trace.ArbitrationEvent.TheVariants.{Pointer, PointerStack, PointerFor, PointerStackFor, Keyboard, KeyboardFor, Gamepad, GamepadFor, Text, Shortcut, SystemShortcut}
-use Rattle.records.specs.declared.trace.Hits.{Hits}
+use Rattle.records.specs.Traces.{Hits, hits}
 use Rattle.composition_state.specs.Damage.{limits_sound, arenas_sound, traces_sound, view_handle, slot_sound, views_sound, is_sound, damage_refusal}
 use Rattle.records.specs.Layers.{layers}
 use Rattle.composition_state.specs.Registry.{advanced, settled}
 use Rattle.records.specs.Shortcuts.{shortcuts}
-use Rattle.records.specs.Surfaces.{descriptor_of}
-use Rattle.records.specs.Traces.{hits}
 use Rattle.records.specs.Views.{view_at, view_status}
 use Rattle.view_panels.specs.Panels.{Panel, panel_in, panels_in}
 use Rattle.composition_shortcuts.specs.OwnView.{is_refused, refusal_of, own_view_refusal}
-use Rattle.composition_shortcuts.specs.Resolve.{resolved_with, winner, resolve_system_shortcut}
+use Rattle.composition_shortcuts.specs.Resolve.{resolved_outcome, winner, resolve_system_shortcut}
 use Rattle.composition_hits.specs.HitTest.{is_panel_hit, hits_among, view_hits}
+use Rattle.composition_state.specs.Registry.{outcome_of}
 use Rattle.composition_arbitration.specs.Arbitration.{is_stack, own_hits, hits_refusal, resolution_of, resolution, arbitration, arbitrate_refusal, next_revision, trace_of, with_trace, concluded, arbitrated}
 use Rattle.composition_soundness.proofs.CaseLaws.{either}
 use Rattle.composition_soundness.proofs.ChangeLaws.{view_parts}
@@ -49,7 +46,7 @@ use Rattle.composition_soundness.proofs.PartLaws.{limit_parts}
 use Rattle.input_events.specs.declared.event.PlatformInputEvent.{PlatformInputEvent}
 use Rattle.input_events.specs.ArbitrationEvents.{needs_hits, point_of}
 use Rattle.input_route.specs.Route.{hits_for}
-use Rattle.refusals.proofs.NumberLaws.{Within, accepted, if_within, status_within, then_within}
+use Rattle.refusals.proofs.NumberLaws.{Within, accepted, if_within, status_within, then_within, with_value}
 
 -- 8/9 and 21
 abbrev pub is_late : ℕ → Bool
@@ -57,17 +54,13 @@ is_late n = eqb n 8 || (eqb n 9 || eqb n 21)
 
 -- ---- what a system shortcut looks up
 own_view : (views : Arena) (surfaces : SurfaceTable) (o : Option GenerationalHandle) → Within is_late (refusal_of views surfaces o)
-own_view views surfaces none = accepted is_late
-own_view views surfaces (some h) = status_within is_late (lookup_of views (descriptor_of surfaces h).view) InvalidView StaleView refl refl
+own_view views surfaces None = accepted is_late
+own_view views surfaces (Some h) = status_within is_late (lookup_of views (descriptor_of surfaces h).view) InvalidView StaleView refl refl
 
-resolved : (o : Outcome) (h : OptionalHandle) → Within is_late o → Within is_late (resolved_with o h).outcome
-resolved Accepted h p = p
-resolved (Refused e) h p = p
-
-resolution_late : (r : CompositionRegistry) (view : GenerationalHandle) (event : ArbitrationEvent) → Within is_late (resolution r view event).outcome
+resolution_late : (r : CompositionRegistry) (view : GenerationalHandle) (event : ArbitrationEvent) → Within is_late (resolved_outcome (resolution r view event))
 unfolding resolution_of resolve_system_shortcut own_view_refusal
 resolution_late r view (SystemShortcut mask) =
-    resolved (own_view_refusal r.views.arena r.surfaces mask (entries_of shortcuts r.shortcuts)) (winner r.views r.surfaces view mask (entries_of shortcuts r.shortcuts))
+    with_value is_late (winner r.views r.surfaces view mask (entries_of shortcuts r.shortcuts)) (own_view_refusal r.views.arena r.surfaces mask (entries_of shortcuts r.shortcuts))
     (own_view r.views.arena r.surfaces (first (is_refused r.views.arena r.surfaces mask (entries_of shortcuts r.shortcuts)) (live_handles r.surfaces.arena)))
 resolution_late r view (Pointer hit) = accepted is_late
 resolution_late r view PointerStack = accepted is_late
@@ -85,8 +78,8 @@ unfolding advanced
 advanced_within changed = either (λ (x : Changed). Within is_late x.outcome) (eqb changed.revision max_u64) _ _ (record { is = refl }) (accepted is_late)
 
 settled_within : (o : Outcome) (r changed : CompositionRegistry) → Within is_late o → Within is_late (settled o r changed).outcome
-settled_within Accepted r changed p = advanced_within changed
-settled_within (Refused e) r changed p = p
+settled_within (Ok _) r changed p = advanced_within changed
+settled_within (Err e) r changed p = p
 
 -- ---- the hits of a live view
 module _ (r : CompositionRegistry) (whole : is_sound r ≡ true) (x : PlatformInputEvent) (live : view_status r.views x.header.view ≡ Live) where
@@ -124,13 +117,13 @@ module _ (r : CompositionRegistry) (whole : is_sound r ≡ true) (x : PlatformIn
       either (λ (h : Hits). ltb 16 h.len ≡ false) (is_stack event) _ _ (either (λ (h : Hits). ltb 16 h.len ≡ false) (needs_hits x.payload) _ _ some-hits empty) empty
 
   -- ---- the whole arbitration
-  pub arbitration_late : (event : ArbitrationEvent) → Within is_late (arbitrated r view event (hits_for r x)).outcome
+  pub arbitration_late : (event : ArbitrationEvent) → Within is_late (outcome_of (arbitrated r view event (hits_for r x)))
   unfolding arbitrated concluded
   arbitration_late event =
       let own = own_hits event (hits_for r x) in
-      settled_within (arbitrate_refusal r view own (resolution r view event).outcome) r (with_trace (trace_of (next_revision r.revision) view event own (arbitration r view event (hits_for r x))) r)
+      with_value is_late _ _ (settled_within (arbitrate_refusal r view own (resolved_outcome (resolution r view event))) r (with_trace (trace_of (next_revision r.revision) view event own (arbitration r view event (hits_for r x))) r)
       (then_within (undamaged) (then_within (status_within is_late (view_status r.views view) InvalidView StaleView refl refl) (then_within (few own (own_few event))
-      (then_within (resolution_late r view event) (if_within is_late (eqb r.revision max_u64) RevisionExhausted refl)))))
+      (then_within (resolution_late r view event) (if_within is_late (eqb r.revision max_u64) RevisionExhausted refl))))))
     where
       undamaged : Within is_late (damage_refusal r)
       undamaged = rw whole (accepted is_late)

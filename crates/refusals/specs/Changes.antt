@@ -1,8 +1,8 @@
 -- RULES.md, What a refusal has written: "21 comes after the change". The change of each call, before the revision
 -- rises.
+use Rattle.std.specs.Prelude.{None, Some}
 use Rattle.handles.specs.Slots.{released}
 use Rattle.handles.specs.declared.GenerationalHandle.{GenerationalHandle}
-use Rattle.handles.specs.declared.OptionalHandle.TheVariants.{None, Some}
 use Rattle.composition_state.specs.declared.registry.CompositionRegistry.{CompositionRegistry}
 use Rattle.records.specs.declared.surface.SurfaceRecord.{SurfaceRecord}
 use Rattle.composition_state.specs.Registry.{with_windows, with_views, with_surfaces, with_shortcuts}
@@ -14,7 +14,7 @@ use Rattle.composition_panels.specs.Windows.{new_window, new_view}
 use Rattle.composition_input.specs.Captures.{primary, own_record, captured_view, released_view}
 use Rattle.composition_input.specs.Focus.{own_view, with_view_record}
 use Rattle.composition_close.specs.Close.{freed}
-use Rattle.composition_shortcuts.specs.declared.register.Registrations.{Registrations}
+use Rattle.composition_shortcuts.specs.Registrations.{Registrations}
 use Rattle.composition_shortcuts.specs.Register.{replaced, registration_list, of_mask}
 use Rattle.calls.specs.declared.arguments.DeviceArguments.{DeviceArguments}
 use Rattle.calls.specs.declared.call.InputCall.{InputCall}

@@ -1,12 +1,9 @@
 -- RULES.md, What a refusal has written: what is left of presses, captures, focus and layers, in the terms of the rules.
-use Rattle.std.specs.Prelude.{ℕ, suc, Bool, false, cond, not, ◌&&◌, ◌||◌, List, [], ◌∷◌, reverse, eqb, ltb}
-use Rattle.std.proofs.Math.Option.{Option, none, some}
+use Rattle.std.specs.Prelude.{ℕ, suc, Bool, false, cond, not, ◌&&◌, ◌||◌, List, [], ◌∷◌, reverse, eqb, ltb, Option, None}
 use Rattle.lists.specs.Lists.{keep, first}
 use Rattle.lists.specs.Maps.{insert}
 use Rattle.lists.specs.Tables.{entries_of, packed}
 use Rattle.handles.specs.declared.GenerationalHandle.{GenerationalHandle}
-use Rattle.handles.specs.declared.OptionalHandle.{OptionalHandle}
-use Rattle.handles.specs.declared.OptionalHandle.TheVariants.{None, Some}
 use Rattle.handles.specs.Handles.{same_handle, holds_handle}
 use Rattle.handles.specs.Slots.{slot_at}
 use Rattle.maps.specs.declared.bindings.Binding.{Binding}
@@ -21,10 +18,9 @@ use Rattle.maps.specs.Captures.{captures}
 use Rattle.maps.specs.Keys.{key_lt}
 use Rattle.maps.specs.Sequences.{sequences, sequence_key}
 use Rattle.records.specs.declared.view.ViewRecord.{ViewRecord}
-use Rattle.records.specs.declared.view.ViewTable.{ViewTable}
+use Rattle.records.specs.Views.{ViewTable, view_at, view_slots, with_view}
 use Rattle.records.specs.Layers.{layers, is_live}
 use Rattle.records.specs.Surfaces.{is_interactive, surface_status, descriptor_of}
-use Rattle.records.specs.Views.{view_at, view_slots, with_view}
 use Rattle.composition_state.specs.declared.registry.CompositionRegistry.{CompositionRegistry}
 use Rattle.composition_state.specs.Registry.{with_views}
 use Rattle.input_events.specs.declared.event.PlatformInputEvent.{PlatformInputEvent}
@@ -154,21 +150,16 @@ layers_but h v = keep (λ at. not (same_handle h at)) (entries_of layers v.surfa
 abbrev pub takes_focus : CompositionRegistry → GenerationalHandle → Bool
 takes_focus r at = is_live (surface_status r.surfaces at) && is_interactive (descriptor_of r.surfaces at).input
 
--- none, or a handle
-abbrev pub as_handle : Option GenerationalHandle → OptionalHandle
-as_handle none = None
-as_handle (some h) = Some h
-
 -- "focus .. already moved": from the panel to the topmost layer left that may have it; another panel's focus stays
-abbrev pub focus_left : CompositionRegistry → GenerationalHandle → ViewRecord → OptionalHandle
-focus_left r h v = cond (holds_handle v.focus h) (as_handle (first (takes_focus r) (reverse (layers_but h v)))) v.focus
+abbrev pub focus_left : CompositionRegistry → GenerationalHandle → ViewRecord → Option GenerationalHandle
+focus_left r h v = cond (holds_handle v.focus h) (first (takes_focus r) (reverse (layers_but h v))) v.focus
 
 -- a capture of the panel
 abbrev pub is_capture_on : GenerationalHandle → Capture → Bool
 is_capture_on h e = same_handle h e.surface
 
 -- "the view's single capture field empties" if the panel has it or any pointer of the map
-abbrev pub field_left : GenerationalHandle → ViewRecord → OptionalHandle
+abbrev pub field_left : GenerationalHandle → ViewRecord → Option GenerationalHandle
 field_left h v =
     cond (holds_handle v.pointer_capture h || any (is_capture_on h) (captures_in v)) None v.pointer_capture
 

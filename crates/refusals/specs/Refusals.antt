@@ -1,9 +1,8 @@
 -- RULES.md, What a refusal has written, claimed of `step` for every counter, every call and every refusal.
-use Rattle.std.specs.Prelude.{◌≡◌, true}
+use Rattle.std.specs.Prelude.{◌≡◌, true, Err}
 use Rattle.handles.specs.declared.GenerationalHandle.{GenerationalHandle}
 use Rattle.input_events.specs.declared.error.PlatformInputError.{PlatformInputError}
 use Rattle.input_events.specs.declared.error.PlatformInputError.TheVariants.{Damaged}
-use Rattle.input_events.specs.declared.error.RouterOutcome.TheVariants.{Refused}
 use Rattle.input_events.specs.RouterErrors.{router_error_number}
 use Rattle.input_releases.specs.Answers.{no_report}
 use Rattle.calls.specs.declared.call.Call.{Call}
@@ -17,7 +16,7 @@ use Rattle.refusals.specs.Written.{Written, after_refusal, written_by, comes_wit
 
 -- the call is refused with this error
 abbrev pub IsRefused : Counter → Call → Lists → PlatformInputError → Type 0
-IsRefused c call l e = (stepped c call l).answer.outcome ≡ Refused e
+IsRefused c call l e = (stepped c call l).answer.outcome ≡ Err e
 
 -- what the refusal has written
 abbrev pub written_with : Counter → Call → Lists → PlatformInputError → Written

@@ -1,6 +1,5 @@
 -- RULES.md, What a refusal has written: its cases, what each of them leaves, and which of them a refusal is.
-use Rattle.std.specs.Prelude.{ℕ, Bool, true, false, cond, not, ◌&&◌, ◌||◌, eqb}
-use Rattle.std.proofs.Math.Option.{Option, none, some}
+use Rattle.std.specs.Prelude.{ℕ, Bool, true, false, cond, not, ◌&&◌, ◌||◌, eqb, is_ok, Option, None, Some}
 use Rattle.lists.specs.Numbers.{max_u64}
 use Rattle.handles.specs.declared.GenerationalHandle.{GenerationalHandle}
 use Rattle.maps.specs.declared.bindings.Binding.{Binding}
@@ -8,7 +7,6 @@ use Rattle.composition_state.specs.declared.registry.CompositionRegistry.{Compos
 use Rattle.composition_panels.specs.Metrics.{current_revision}
 use Rattle.input_events.specs.declared.event.PlatformInputEvent.{PlatformInputEvent}
 use Rattle.input_events.specs.ArbitrationEvents.{is_disconnect, is_loss}
-use Rattle.input_events.specs.RouterErrors.{is_router_accepted}
 use Rattle.input_route.specs.Checks.{route_refusal}
 use Rattle.calls.specs.declared.call.Call.{Call}
 use Rattle.calls.specs.declared.call.Call.TheVariants.{Panel, Input, ReleaseDevice, Shortcut, Arbitrate, Close, Router, Read}
@@ -83,8 +81,8 @@ close_written r h n = cond (eqb n 21) (change (close_change r h)) (cond (eqb n 2
 -- ---- a routed event: its checks come before anything is written
 -- a view's loss, without a closed owner or with one
 abbrev pub loss_written : PlatformInputEvent → Option Binding → Written
-loss_written x none = loss x
-loss_written x (some owner) = closed_owner_lem x owner
+loss_written x None = loss x
+loss_written x (Some owner) = closed_owner_lem x owner
 
 -- after the checks: a disconnect, a view's loss, or an event to arbitrate
 abbrev pub work_written : Counter → PlatformInputEvent → Written
@@ -95,7 +93,7 @@ work_written c x =
 
 -- an event that its checks refuse has written nothing
 abbrev pub route_written : Counter → PlatformInputEvent → Written
-route_written c x = cond (is_router_accepted (route_refusal c.registry c.router x)) (work_written c x) nothing
+route_written c x = cond (is_ok (route_refusal c.registry c.router x)) (work_written c x) nothing
 
 -- ---- which case a refusal is, by its call and its number
 unfoldable pub written_by : Counter → Call → Lists → ℕ → Written

@@ -1,31 +1,28 @@
 -- An accepted call leaves its change with the revision raised, which the book does not read; and what is to be shown of a change for the book to follow it.
+use Rattle.records.specs.Errors.{Outcome}
+use Rattle.std.specs.Prelude.{Some, Ok}
 use Prim.Native.Nat.{ℕ, ◌+◌}
 use mathlib.Core.Path.{◌≡◌, refl, sym, ap, ◌∙◌, subst}
 use mathlib.Core.Bool.{true, cond}
 use mathlib.Core.List.{List, [], map}
-use mathlib.Core.Option.{some}
 use Rattle.lists.specs.Lists.{all}
 use Rattle.lists.specs.Tables.{entries_of}
 use Rattle.lists.proofs.ListLaws.{and_left, and_right, and_both}
 use Rattle.handles.specs.Handles.{same_handle}
 use Rattle.handles.specs.Slots.{slot_at}
 use Rattle.handles.specs.declared.GenerationalHandle.{GenerationalHandle}
-use Rattle.handles.specs.declared.OptionalHandle.TheVariants.{Some}
-use Rattle.maps.specs.Captures.{captures, capture_key}
+use Rattle.maps.specs.Captures.{captures, capture_key, PointerCaptures}
 use Rattle.maps.specs.Keys.{pointer_key}
 use Rattle.maps.specs.MapTables.{found}
-use Rattle.maps.specs.declared.captures.PointerCaptures.{PointerCaptures}
-use Rattle.records.specs.declared.error.Outcome.{Outcome}
-use Rattle.records.specs.declared.error.Outcome.TheVariants.{Accepted}
-use Rattle.records.specs.declared.layers.Layers.{Layers}
+use Rattle.records.specs.Layers.{Layers, layers, is_live}
 use Rattle.composition_state.specs.declared.registry.CompositionRegistry.{CompositionRegistry}
 use Rattle.records.specs.declared.view.ViewRecord.{ViewRecord}
-use Rattle.records.specs.declared.view.ViewTable.{ViewTable}
+use Rattle.records.specs.Views.{ViewTable, no_view, view_at, view_slots, view_status, with_view}
 use Rattle.composition_state.specs.Damage.{view_handle}
-use Rattle.records.specs.Layers.{layers, is_live}
 use Rattle.composition_state.specs.Registry.{with_revision, settled}
-use Rattle.records.specs.Views.{no_view, view_at, view_slots, view_status, with_view}
 use Rattle.composition_state.proofs.SettleLaws.{accepted_is, settled_accepted}
+use Rattle.composition_state.specs.Registry.{answered_with, outcome_of}
+use Rattle.composition_state.proofs.SettleLaws.{outcome_is}
 use Rattle.composition_input.specs.Captures.{primary, capture}
 use Rattle.composition_input.specs.Focus.{with_view_record}
 use Rattle.composition_arbitration.specs.Targets.{is_among}
@@ -36,7 +33,7 @@ use Rattle.registry_book.proofs.GatherLaws.{gather_same}
 
 -- ---- an accepted call
 module _ (P : CompositionRegistry → Type 0) (again : (n : ℕ) (c : CompositionRegistry) → P c → P (with_revision n c)) where
-  pub settled_as : (o : Outcome) (r c : CompositionRegistry) → (settled o r c).outcome ≡ Accepted → (o ≡ Accepted → P c) → P (settled o r c).registry
+  pub settled_as : (o : Outcome) (r c : CompositionRegistry) → (settled o r c).outcome ≡ Ok tt → (o ≡ Ok tt → P c) → P (settled o r c).registry
   settled_as o r c q f = subst P (sym (accepted_is o r c q)) (again (c.revision + 1) c (f (settled_accepted o r c q)))
 
 pub agrees_again : (b : Book) (n : ℕ) (c : CompositionRegistry) → Agrees c b → Agrees (with_revision n c) b
@@ -48,8 +45,13 @@ agrees_again b n c a = record {
   single_mapped = a.single_mapped;
 }
 
-pub follows : (b : Book) (o : Outcome) (r c : CompositionRegistry) → (settled o r c).outcome ≡ Accepted → (o ≡ Accepted → Follows r c b) → Follows r (settled o r c).registry b
+pub follows : (b : Book) (o : Outcome) (r c : CompositionRegistry) → (settled o r c).outcome ≡ Ok tt → (o ≡ Ok tt → Follows r c b) → Follows r (settled o r c).registry b
 follows b o r c q f = settled_as (λ x. Follows r x b) (λ n x y. record { agrees = agrees_again b n x y.agrees; keeps = record { stays = y.keeps.stays } }) o r c q f
+
+-- a call that makes a value follows as one that makes none
+pub made_follows : {T : Type 0} (v : T) (b : Book) (o : Outcome) (r c : CompositionRegistry) → outcome_of (answered_with v (settled o r c)) ≡ Ok tt → (o ≡ Ok tt → Follows r c b)
+    → Follows r (settled o r c).registry b
+made_follows v b o r c q f = follows b o r c (sym (outcome_is v (settled o r c)) ∙ q) f
 
 -- ---- a change of the views, or of panels' records
 abbrev pub layers_at : ViewTable → GenerationalHandle → List GenerationalHandle
@@ -67,7 +69,7 @@ LayersStay t after = (view h : GenerationalHandle) → is_live (view_status t vi
 
 -- a panel in the single field has PRIMARY in the map
 abbrev pub HasPrimary : GenerationalHandle → PointerCaptures → Type 0
-HasPrimary h t = found captures capture_key (pointer_key primary) t ≡ some (capture primary h)
+HasPrimary h t = found captures capture_key (pointer_key primary) t ≡ Some (capture primary h)
 
 abbrev pub Mapped : ViewRecord → Type 0
 Mapped v = (h : GenerationalHandle) → v.pointer_capture ≡ Some h → HasPrimary h v.pointer_captures
@@ -87,7 +89,7 @@ module _ (r after : CompositionRegistry) (b b' : Book) (a : Agrees r b) (same : 
   views_follow has homes well stay mapped = record {
     agrees = record {
       captures_held = has;
-      homes_known = λ h o. ap (home_of h) homes ∙ a.homes_known h (sym (same.status h) ∙ o) ∙ ap (λ (v : GenerationalHandle). some v) (sym (same.view h));
+      homes_known = λ h o. ap (home_of h) homes ∙ a.homes_known h (sym (same.status h) ∙ o) ∙ ap (λ (v : GenerationalHandle). Some v) (sym (same.view h));
       held_well = all_as (is_held_well r) (is_held_well after) still_well b'.captures well;
       layered = λ h o.
           let x = a.layered h (sym (same.status h) ∙ o) in

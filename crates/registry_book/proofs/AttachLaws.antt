@@ -1,9 +1,10 @@
 -- An attach: the new handle was not live, so no capture and no other panel changes; its view gets it as a layer, and the book notes it first.
+use Rattle.std.specs.Prelude.{Some, Option, Ok}
+use Rattle.std.specs.Result.{result_and, result_ok}
 use Prim.Native.Nat.{ℕ, ◌≤◌, ◌<◌}
 use mathlib.Core.Path.{◌≡◌, refl, sym, ap, ◌∙◌, subst}
 use mathlib.Core.Bool.{Bool, true, false, cond, not}
 use mathlib.Core.List.{List, ◌∷◌}
-use mathlib.Core.Option.{some}
 use native.Mathlib.Omega.{arith}
 use borrow.Author.Tests.{lt-ltb, eqb-false}
 use lib.Dec.{eqb}
@@ -21,25 +22,25 @@ use Rattle.handles.specs.Slots.{lookup_of}
 use Rattle.handles.specs.declared.arena.Allocation.{Allocation}
 use Rattle.handles.specs.declared.arena.SlotStatus.TheVariants.{Live}
 use Rattle.handles.specs.declared.GenerationalHandle.{GenerationalHandle}
-use Rattle.handles.specs.declared.OptionalHandle.{OptionalHandle}
 use Rattle.handles.proofs.ClaimLaws as arena
 use Rattle.handles.proofs.HandleLaws.{handles}
 use Rattle.handles.proofs.LookupLaws.{live_facts}
 use Rattle.records.specs.declared.error.CompositionError.TheVariants.{InvalidView, StaleView, InvalidGeometry, PerViewCapacity, Capacity}
-use Rattle.records.specs.declared.error.Outcome.{Outcome}
-use Rattle.records.specs.declared.error.Outcome.TheVariants.{Accepted}
 use Rattle.composition_state.specs.declared.registry.CompositionRegistry.{CompositionRegistry}
 use Rattle.records.specs.declared.surface.SurfaceDescriptor.{SurfaceDescriptor}
 use Rattle.records.specs.declared.surface.SurfaceRecord.{SurfaceRecord}
 use Rattle.records.specs.declared.view.ViewRecord.{ViewRecord}
 use Rattle.composition_state.specs.Damage.{damage_refusal}
-use Rattle.records.specs.Errors.{refusal_if, is_accepted}
+use Rattle.records.specs.Errors.{refusal_if, Outcome}
 use Rattle.records.specs.Layers.{layers, itself, layer_lt, layers_with, is_live}
 use Rattle.records.specs.Surfaces.{no_surface, surface_status}
 use Rattle.records.specs.Views.{view_at, view_status, view_refusal, with_layers}
+use Rattle.composition_state.specs.Registry.{Changed}
+use Rattle.composition_state.specs.Registry.{settled}
 use Rattle.composition_state.proofs.SettleLaws.{then_last, if_accepted}
 use Rattle.composition_panels.specs.Panels.{layer_count, attach_refusal, new_surface, surface_added, attached, attach_surface}
-use Rattle.composition_panels.specs.Windows.{handle_if}
+use Rattle.composition_state.specs.Registry.{outcome_of}
+use Rattle.composition_state.proofs.SettleLaws.{outcome_is}
 use Rattle.composition_arbitration.specs.Targets.{is_among}
 use Rattle.composition_soundness.proofs.CaseLaws.{then_first, status_live, live_is, by_handle}
 use Rattle.composition_soundness.proofs.ListLaws.{all_as, entries_few}
@@ -56,13 +57,13 @@ use Rattle.registry_book.proofs.ViewLaws.{record_own, record_other, each_record}
 
 -- ---- the book's views with one more in front
 module _ (h view : GenerationalHandle) (l : List Home) where
-  home_new : home_of h (record { surface = h; view = view } ∷ l) ≡ some view
+  home_new : home_of h (record { surface = h; view = view } ∷ l) ≡ Some view
   unfolding home_of
-  home_new = ap (λ (s : Bool). view_of_home (cond s (some (record { surface = h; view = view })) (first (λ x. same_handle h x.surface) l))) (handles.same_refl h)
+  home_new = ap (λ (s : Bool). view_of_home (cond s (Some (record { surface = h; view = view })) (first (λ x. same_handle h x.surface) l))) (handles.same_refl h)
 
   home_old : (g : GenerationalHandle) → (g ≡ h → ⊥) → home_of g (record { surface = h; view = view } ∷ l) ≡ home_of g l
   unfolding home_of
-  home_old g d = ap (λ (s : Bool). view_of_home (cond s (some (record { surface = h; view = view })) (first (λ x. same_handle g x.surface) l))) (apart h g (λ q. d (sym q)))
+  home_old g d = ap (λ (s : Bool). view_of_home (cond s (Some (record { surface = h; view = view })) (first (λ x. same_handle g x.surface) l))) (apart h g (λ q. d (sym q)))
 
 module _ (r : CompositionRegistry) (p : Parts r) (b : Book) (a : Agrees r b) (d : SurfaceDescriptor) where
   abbrev made : Allocation
@@ -150,10 +151,10 @@ module _ (r : CompositionRegistry) (p : Parts r) (b : Book) (a : Agrees r b) (d 
       agrees = record {
         captures_held = same_held r.views d.view layered refl ∙ a.captures_held;
         homes_known = λ h o. by_handle h new
-            (λ q. subst (λ (g : GenerationalHandle). home_of g (noted new d.view b).homes ≡ some (view_of after g)) (sym q)
-            (home_new new d.view b.homes ∙ ap (λ (v : GenerationalHandle). some v) (sym view_new)))
+            (λ q. subst (λ (g : GenerationalHandle). home_of g (noted new d.view b).homes ≡ Some (view_of after g)) (sym q)
+            (home_new new d.view b.homes ∙ ap (λ (v : GenerationalHandle). Some v) (sym view_new)))
             (λ n. let k = was_open h n o in
-            home_old new d.view b.homes h n ∙ a.homes_known h k ∙ ap (λ (v : GenerationalHandle). some v) (sym (view_old h k)));
+            home_old new d.view b.homes h n ∙ a.homes_known h k ∙ ap (λ (v : GenerationalHandle). Some v) (sym (view_old h k)));
         held_well = all_as (is_held_well r) (is_held_well after) still_well b.captures a.held_well;
         layered = λ h o. by_handle h new
             (λ q. subst (λ (g : GenerationalHandle). (is_live (view_status after.views (view_of after g)) ≡ true) × (is_among g (layers_at after.views (view_of after g)) ≡ true)) (sym q)
@@ -168,10 +169,15 @@ module _ (r : CompositionRegistry) (p : Parts r) (b : Book) (a : Agrees r b) (d 
       keeps = record { stays = λ h o. (still_open h o, view_old h o) };
     }
 
-  pub attach : (attach_surface r d).outcome ≡ Accepted → Follows r (attach_surface r d).registry (noted_attach (attach_surface r d).handle d.view b)
+  abbrev attaching : Changed
+  attaching = settled (attach_refusal r d) r after
+
+  pub attach : outcome_of (attach_surface r d) ≡ Ok tt → Follows r (attach_surface r d).registry (noted_attach (result_ok (attach_surface r d).outcome) d.view b)
   unfolding attach_surface
-  attach y = subst (λ (m : OptionalHandle). Follows r (attach_surface r d).registry (noted_attach m d.view b)) (sym (ap (λ (o : Outcome). handle_if (is_accepted o) new) y))
-      (follows (noted new d.view b) (attach_refusal r d) r after y (λ o.
+  attach y =
+      let done : attaching.outcome ≡ Ok tt = sym (outcome_is new attaching) ∙ y in
+      subst (λ (m : Option GenerationalHandle). Follows r attaching.registry (noted_attach m d.view b)) (sym (ap (λ (o : Outcome). result_ok (result_and o (Ok new))) done))
+      (follows (noted new d.view b) (attach_refusal r d) r after done (λ o.
       let o₁ = then_last (refusal_if (not (is_valid_geometry d.geometry)) InvalidGeometry) _ (then_last (damage_refusal r) _ o) in
       let live = status_live (lookup_of r.views.arena d.view) InvalidView StaleView (then_first (view_refusal r.views d.view) _ o₁) in
       let o₂ = then_last (view_refusal r.views d.view) _ o₁ in

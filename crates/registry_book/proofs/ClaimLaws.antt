@@ -1,8 +1,8 @@
 -- The claims hold: each call by the law of its kind, with the damage test as facts of its parts.
+use Rattle.std.specs.Prelude.{Ok}
 use mathlib.Core.Path.{◌≡◌}
-use Rattle.records.specs.declared.error.Outcome.TheVariants.{Accepted}
 use Rattle.composition_state.specs.declared.registry.CompositionRegistry.{CompositionRegistry}
-use Rattle.composition_shortcuts.specs.declared.register.Registrations.{Registrations}
+use Rattle.composition_shortcuts.specs.Registrations.{Registrations}
 use Rattle.composition_shortcuts.specs.Register.{registration_list, of_mask}
 use Rattle.calls.specs.declared.call.PanelCall.{PanelCall}
 use Rattle.calls.specs.declared.call.PanelCall.TheVariants as panel
@@ -25,7 +25,7 @@ use Rattle.registry_book.proofs.SlotLaws.{create_view_lem, close_view_lem, start
 use Rattle.registry_book.proofs.UnreadLaws as unread
 
 module _ (r : CompositionRegistry) (p : Parts r) (b : Book) (a : Agrees r b) where
-  panel_follows : (call : PanelCall) → (panel_step r call).outcome ≡ Accepted → Follows r (panel_step r call).registry (noted_panel call (panel_step r call).handle b)
+  panel_follows : (call : PanelCall) → (panel_step r call).outcome ≡ Ok tt → Follows r (panel_step r call).registry (noted_panel call (panel_step r call).handle b)
   unfolding panel_step noted_panel
   panel_follows panel.CreateWindow q = unread.create_window_lem r b a q
   panel_follows (panel.CloseWindow w) q = unread.close_window_lem r b a w q
@@ -36,7 +36,7 @@ module _ (r : CompositionRegistry) (p : Parts r) (b : Book) (a : Agrees r b) whe
   panel_follows (panel.UpdateSurfaceGeometry x) q = unread.geometry r b a x.surface x.geometry x.revision q
   panel_follows (panel.UpdateSurfaceInputPolicy x) q = unread.policy r b a x.surface x.input x.revision q
 
-  shortcut_follows : (call : ShortcutCall) (l : Registrations) → (shortcut_step r call l).outcome ≡ Accepted → Follows r (shortcut_step r call l).registry b
+  shortcut_follows : (call : ShortcutCall) (l : Registrations) → (shortcut_step r call l).outcome ≡ Ok tt → Follows r (shortcut_step r call l).registry b
   unfolding shortcut_step
   shortcut_follows (shortcut.RegisterSet x) l q = unread.register r b a x.handle l x.revision q
   shortcut_follows (shortcut.RegisterOne x) l q = unread.register r b a x.surface (registration_list x.registration) x.revision q
@@ -59,6 +59,6 @@ claims = record {
   close = λ r b h u a. close r (parts r u) b a h;
   device_list = λ r b value generation u a. device_list value generation r b a;
   view_list = λ r b v u a l. view_list r b (parts r u) a v (live_is (view_status r.views v) l);
-  delivered = λ r v e hits u. delivered r (parts r u) v e hits;
-  consumed = λ r v h e hits u. consumed r (parts r u) v e hits h;
+  delivered = λ r v e hits u x y. delivered r (parts r u) v e hits x y;
+  consumed = λ r v h e hits u x y. consumed r (parts r u) v e hits x y h;
 }

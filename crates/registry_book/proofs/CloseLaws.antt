@@ -1,7 +1,8 @@
 -- A panel's close: its captures stand in its own view alone and go there, it is no layer any more and its handle is stale, and every other panel stays.
+use Rattle.records.specs.Errors.{Outcome}
+use Rattle.std.specs.Prelude.{None, Some, Option, Ok, Err}
 use mathlib.Core.Path.{◌≡◌, refl, sym, ap, ◌∙◌}
 use mathlib.Core.Bool.{Bool, true, false, cond, not, ◌&&◌}
-use mathlib.Core.Option.{none, some}
 use borrow.Author.Tests.{eq-eqb, not-true}
 use Rattle.lists.specs.Lists.{keep}
 use Rattle.lists.specs.Tables.{entries_of}
@@ -10,25 +11,21 @@ use Rattle.lists.proofs.TableLaws.{entries_packed}
 use Rattle.handles.specs.Handles.{same_handle, holds_handle}
 use Rattle.handles.specs.Slots.{lookup_of, released, released_as}
 use Rattle.handles.specs.declared.arena.Arena.{Arena}
-use Rattle.handles.specs.declared.arena.ReleaseOutcome.TheVariants as release
+use Rattle.handles.specs.declared.arena.ReleaseError.TheVariants as release
 use Rattle.handles.specs.declared.arena.SlotStatus.{SlotStatus}
 use Rattle.handles.specs.declared.arena.SlotStatus.TheVariants.{Live}
 use Rattle.handles.specs.declared.GenerationalHandle.{GenerationalHandle}
-use Rattle.handles.specs.declared.OptionalHandle.{OptionalHandle}
-use Rattle.handles.specs.declared.OptionalHandle.TheVariants as O
 use Rattle.handles.proofs.ClaimLaws as arena
 use Rattle.handles.proofs.HandleLaws.{handles}
 use Rattle.maps.specs.Captures.{captures}
 use Rattle.records.specs.declared.error.CompositionError.TheVariants.{InvalidSurface, StaleSurface}
-use Rattle.records.specs.declared.error.Outcome.{Outcome}
-use Rattle.records.specs.declared.error.Outcome.TheVariants.{Accepted, Refused}
 use Rattle.composition_state.specs.declared.registry.CompositionRegistry.{CompositionRegistry}
 use Rattle.records.specs.declared.view.ViewRecord.{ViewRecord}
 use Rattle.composition_state.specs.Damage.{damage_refusal}
 use Rattle.records.specs.Layers.{layers, is_live}
 use Rattle.records.specs.Surfaces.{surface_status, surface_refusal}
 use Rattle.records.specs.Views.{view_at, view_status, with_view}
-use Rattle.composition_state.proofs.SettleLaws.{then_last}
+use Rattle.composition_state.proofs.SettleLaws.{without_value, then_last}
 use Rattle.composition_panels.specs.Windows.{exhausted_refusal}
 use Rattle.composition_input.specs.Captures.{primary, capture}
 use Rattle.composition_arbitration.specs.Targets.{is_among}
@@ -47,14 +44,15 @@ use Rattle.registry_book.proofs.AgreeLaws.{settled_as, agrees_again, layers_at, 
 use Rattle.registry_book.proofs.LayerLaws.{among_keep}
 use Rattle.registry_book.proofs.PrimaryLaws.{none≢some, found_kept}
 use Rattle.registry_book.proofs.ViewLaws.{others_stay, record_own, record_other, each_record, held_dropped}
+use Rattle.composition_state.specs.Registry.{outcome_of}
 
 -- a live handle whose release is not refused 22 is released
 module _ (a : Arena) (h : GenerationalHandle) (e : lookup_of a h ≡ Live) where
-  exhausted : h.generation ≡ 4294967295 → (released a h).outcome ≡ release.GenerationExhausted
+  exhausted : h.generation ≡ 4294967295 → (released a h).outcome ≡ Err release.GenerationExhausted
   unfolding released
   exhausted g = ap (λ (s : SlotStatus). (released_as s a h).outcome) e ∙ rw (eq-eqb h.generation 4294967295 g)
 
-  not_exhausted : exhausted_refusal (released a h).outcome ≡ Accepted → h.generation ≡ 4294967295 → ⊥
+  not_exhausted : exhausted_refusal (released a h).outcome ≡ Ok tt → h.generation ≡ 4294967295 → ⊥
   not_exhausted o g = refused≢accepted (sym (ap exhausted_refusal (exhausted g)) ∙ o)
 
 module _ (r : CompositionRegistry) (p : Parts r) (b : Book) (a : Agrees r b) (h : GenerationalHandle) where
@@ -73,7 +71,7 @@ module _ (r : CompositionRegistry) (p : Parts r) (b : Book) (a : Agrees r b) (h 
   abbrev left : Book
   left = without_captures (is_held_on_panel h) b
 
-  module _ (o : lookup_of r.surfaces.arena h ≡ Live) (gone : exhausted_refusal (released r.surfaces.arena h).outcome ≡ Accepted) where
+  module _ (o : lookup_of r.surfaces.arena h ≡ Live) (gone : exhausted_refusal (released r.surfaces.arena h).outcome ≡ Ok tt) where
     live : lookup_of r.views.arena view ≡ Live
     live = live_is (view_status r.views view) (a.layered h (ap is_live o)).0
 
@@ -113,13 +111,13 @@ module _ (r : CompositionRegistry) (p : Parts r) (b : Book) (a : Agrees r b) (h 
     out_mapped : Mapped out
     unfolding detached_view had_capture
     out_mapped g q = by_test (had_capture old h)
-        (λ t. none≢some (ap (λ (s : Bool). cond s O.None old.pointer_capture) (sym t) ∙ q))
+        (λ t. none≢some (ap (λ (s : Bool). cond s None old.pointer_capture) (sym t) ∙ q))
         (λ t.
-        let f : old.pointer_capture ≡ O.Some g = ap (λ (s : Bool). cond s O.None old.pointer_capture) (sym t) ∙ q in
-        let n : same_handle g h ≡ false = ap (λ (m : OptionalHandle). holds_handle m h) (sym f) ∙ or_left (holds_handle old.pointer_capture h) _ t in
+        let f : old.pointer_capture ≡ Some g = ap (λ (s : Bool). cond s None old.pointer_capture) (sym t) ∙ q in
+        let n : same_handle g h ≡ false = ap (λ (m : Option GenerationalHandle). holds_handle m h) (sym f) ∙ or_left (holds_handle old.pointer_capture h) _ t in
         let m : same_handle h g ≡ false = apart g h (λ s. clash (ap (λ (k : GenerationalHandle). same_handle k h) s ∙ handles.same_refl h) n) in
         found_kept old.pointer_captures (view_of_lem r p view live).captured (λ e. not (is_on_surface h e)) g (a.single_mapped view g (ap is_live live) f)
-        ∙ ap (λ (s : Bool). cond (not s) (some (capture primary g)) none) m)
+        ∙ ap (λ (s : Bool). cond (not s) (Some (capture primary g)) None) m)
 
     -- ---- the layers
     still_among : (g v : GenerationalHandle) → same_handle h g ≡ false → lookup_of r.views.arena v ≡ Live → is_among g (layers_at r.views v) ≡ true → is_among g (layers_at (with_view view out r.views) v) ≡ true
@@ -153,13 +151,13 @@ module _ (r : CompositionRegistry) (p : Parts r) (b : Book) (a : Agrees r b) (h 
   abbrev Closed : CompositionRegistry → Type 0
   Closed x = Agrees x left × KeepsBut h r x
 
-  close_after_lem : (o : Outcome) → close_refusal r h ≡ o → (close_after o r h).outcome ≡ Accepted → Closed (close_after o r h).registry
+  close_after_lem : (o : Outcome) → close_refusal r h ≡ o → outcome_of (close_after o r h) ≡ Ok tt → Closed (close_after o r h).registry
   unfolding close_settled
-  close_after_lem Accepted q y = settled_as Closed (λ n c x. (agrees_again left n c x.0, record { stays = x.1.stays })) (slot_refusal r h) (detached h r) (closed_panel h r) y (λ s.
+  close_after_lem (Ok _) q y = settled_as Closed (λ n c x. (agrees_again left n c x.0, record { stays = x.1.stays })) (slot_refusal r h) (detached h r) (closed_panel h r) (sym (without_value _ _) ∙ y) (λ s.
       let o = status_live (surface_status r.surfaces h) InvalidSurface StaleSurface (then_first (surface_refusal r.surfaces h) _ (then_last (damage_refusal r) _ q)) in
       (closed_agrees o s, closed_keeps o s))
-  close_after_lem (Refused e) q y = refused≢accepted y
+  close_after_lem (Err e) q y = refused≢accepted y
 
-  pub close : (close_surface r h).outcome ≡ Accepted → Agrees (close_surface r h).registry (without_captures (is_held_on_panel h) b) × KeepsBut h r (close_surface r h).registry
+  pub close : outcome_of (close_surface r h) ≡ Ok tt → Agrees (close_surface r h).registry (without_captures (is_held_on_panel h) b) × KeepsBut h r (close_surface r h).registry
   unfolding close_surface
   close y = close_after_lem (close_refusal r h) refl y

@@ -1,4 +1,5 @@
 -- Who gets an event is a live panel, and who takes it gets it: the panels that are walked are live panels of the view, and a shortcut's winner stands in a filled slot.
+use Rattle.std.specs.Prelude.{Option, None, Some, Ok, Err}
 use mathlib.Core.Path.{◌≡◌, refl, sym, ap, ◌∙◌}
 use mathlib.Core.Bool.{Bool, true, false, ◌&&◌}
 use mathlib.Core.List.{List, [], ◌∷◌, reverse, reverse-cons}
@@ -11,32 +12,30 @@ use Rattle.lists.proofs.TableLaws.{entries_packed}
 use Rattle.handles.specs.Slots.{slot_at, lookup_of}
 use Rattle.handles.specs.declared.arena.SlotStatus.TheVariants.{Live}
 use Rattle.handles.specs.declared.GenerationalHandle.{GenerationalHandle}
-use Rattle.handles.specs.declared.OptionalHandle.{OptionalHandle}
-use Rattle.handles.specs.declared.OptionalHandle.TheVariants.{None, Some}
 use Rattle.records.specs.declared.error.CompositionError.TheVariants.{InvalidView, StaleView}
-use Rattle.records.specs.declared.error.Outcome.{Outcome}
-use Rattle.records.specs.declared.error.Outcome.TheVariants.{Accepted}
 use Rattle.composition_state.specs.declared.registry.CompositionRegistry.{CompositionRegistry}
 use Rattle.records.specs.declared.trace.ArbitrationEvent.{ArbitrationEvent}
 use Rattle.records.specs.declared.trace.ArbitrationEvent.TheVariants.{Pointer, PointerStack, PointerFor, PointerStackFor, Keyboard, KeyboardFor, Gamepad, GamepadFor, Text, Shortcut, SystemShortcut}
-use Rattle.records.specs.declared.trace.Deliveries.{Deliveries}
-use Rattle.records.specs.declared.trace.Hits.{Hits}
+use Rattle.records.specs.Traces.{Deliveries, Hits, hits as state_hits, deliveries}
 use Rattle.records.specs.declared.trace.InputDelivery.{InputDelivery}
+use Rattle.composition_state.specs.Registry.{Changed}
+use Rattle.composition_state.specs.Registry.{settled}
 use Rattle.composition_state.specs.Damage.{damage_refusal}
-use Rattle.records.specs.Errors.{is_accepted}
 use Rattle.records.specs.Layers.{layers, is_live, is_layer_of}
 use Rattle.records.specs.Shortcuts.{shortcuts}
-use Rattle.records.specs.Traces.{hits as state_hits, deliveries}
 use Rattle.records.specs.Views.{view_at, view_status, view_refusal}
 use Rattle.view_panels.specs.Panels.{Panel, panel_in, panels_in}
 use Rattle.composition_state.proofs.SettleLaws.{settled_accepted, then_last}
 use Rattle.composition_shortcuts.specs.Scope.{shares_bit, is_owned, counts}
+use Rattle.composition_shortcuts.specs.Resolve.{Resolved, resolved_outcome, resolved_panel}
 use Rattle.composition_shortcuts.proofs.ClaimLaws as shortcut
+use Rattle.composition_arbitration.specs.declared.arbitrate.ArbitrationResult.{ArbitrationResult}
 use Rattle.composition_arbitration.specs.declared.walk.Verdict.{Verdict}
-use Rattle.composition_arbitration.specs.Arbitration.{everyone, own_hits, resolution_of, resolution, alone, or_alone, walk_over, walk_in, arbitration, arbitrate_refusal, result_if, concluded, arbitrated}
+use Rattle.composition_arbitration.specs.Arbitration.{everyone, own_hits, resolution_of, resolution, alone, or_alone, walk_over, walk_in, arbitration, next_revision, arbitrate_refusal, trace_of, with_trace, result_at, concluded, arbitrated}
 use Rattle.composition_arbitration.specs.Layers.{delivers, consumes, verdict_of, delivery_from, until_consumed, walked, deliveries_of, walk_of}
 use Rattle.composition_arbitration.specs.Targets.{chosen}
 use Rattle.composition_arbitration.proofs.CallClaimLaws as call
+use Rattle.composition_arbitration.proofs.CallClaimLaws.{accepted_value}
 use Rattle.composition_soundness.proofs.CaseLaws.{then_first, status_live}
 use Rattle.composition_soundness.proofs.ListLaws.{all_as, all_keep}
 use Rattle.composition_soundness.proofs.LiveLaws.{filled_live}
@@ -58,16 +57,21 @@ all_until at p [] h = refl
 all_until at p (g ∷ l) h = and_both (and_left (p g) (all p l) h)
     (by_test (consumes (at g)) (λ t. rw t) (λ t. rw t (all_until at p l (and_right (p g) (all p l) h))))
 
+-- a panel that is named is that of an answer without a refusal
+named : (x : Resolved) (h : GenerationalHandle) → resolved_panel x ≡ Some h → x ≡ Ok (Some h)
+named (Ok m) h q = ap (λ (o : Option GenerationalHandle). Ok o) q
+named (Err e) h q = none≢some q
+
 module _ (r : CompositionRegistry) (p : Parts r) where
   -- a delivery to a live panel
   abbrev to_open : InputDelivery → Bool
   to_open d = is_open r d.surface
 
   -- ---- the winner of a system shortcut
-  winner_open : (v : GenerationalHandle) (e : ArbitrationEvent) (h : GenerationalHandle) → (resolution r v e).surface ≡ Some h → is_open r h ≡ true
+  winner_open : (v : GenerationalHandle) (e : ArbitrationEvent) (h : GenerationalHandle) → resolved_panel (resolution r v e) ≡ Some h → is_open r h ≡ true
   unfolding resolution_of counts
   winner_open v (SystemShortcut mask) h q =
-      let w = (shortcut.claims).winner_wins r.views r.surfaces v mask (entries_of shortcuts r.shortcuts) h q in
+      let w = (shortcut.claims).winner_wins r.views r.surfaces v mask (entries_of shortcuts r.shortcuts) h (named _ h q) in
       let s = w.registration in
       let owned = and_left (is_owned r.surfaces.arena s) _ (and_right (shares_bit s.registration.class_mask mask) _ w.counting.counted) in
       let used = ltb-true s.slot r.surfaces.arena.used (and_left (ltb s.slot r.surfaces.arena.used) _ owned) in
@@ -111,32 +115,41 @@ module _ (r : CompositionRegistry) (p : Parts r) where
     walk_in_open l = walk_open (verdict_of (chosen e (view_at r.views v)) (entries_of state_hits (own_hits e hits))) (panels_in r.views r.surfaces v) (layers_open l)
 
     all_open : lookup_of r.views.arena v ≡ Live → all to_open (entries_of deliveries (arbitration r v e hits).deliveries) ≡ true
-    all_open l = go (resolution r v e).surface refl
+    all_open l = go (resolved_panel (resolution r v e)) refl
       where
-        go : (m : OptionalHandle) → (resolution r v e).surface ≡ m → all to_open (entries_of deliveries (or_alone m (walk_in r v e (own_hits e hits))).deliveries) ≡ true
+        go : (m : Option GenerationalHandle) → resolved_panel (resolution r v e) ≡ m → all to_open (entries_of deliveries (or_alone m (walk_in r v e (own_hits e hits))).deliveries) ≡ true
         go (Some h) q = alone_open h (winner_open v e h q)
         go None q = walk_in_open l
 
     -- ---- an accepted call
-    event_view : (arbitrated r v e hits).outcome ≡ Accepted → lookup_of r.views.arena v ≡ Live
-    unfolding arbitrated concluded
-    event_view y = status_live (view_status r.views v) InvalidView StaleView (then_first (view_refusal r.views v) _ (then_last (damage_refusal r) _
-        (settled_accepted (arbitrate_refusal r v (own_hits e hits) (resolution r v e).outcome) r _ y)))
+    abbrev call_settled : Changed
+    call_settled = settled (arbitrate_refusal r v (own_hits e hits) (resolved_outcome (resolution r v e))) r
+        (with_trace (trace_of (next_revision r.revision) v e (own_hits e hits) (arbitration r v e hits)) r)
 
-    told_deliveries : (arbitrated r v e hits).outcome ≡ Accepted → (arbitrated r v e hits).result.deliveries ≡ (arbitration r v e hits).deliveries
-    unfolding arbitrated concluded
-    told_deliveries y = ap (λ (o : Outcome). (result_if (is_accepted o) (arbitrated r v e hits).registry.revision (arbitration r v e hits)).deliveries) y
+    abbrev answer : ArbitrationResult
+    answer = result_at call_settled.registry.revision (arbitration r v e hits)
 
-    told_consumer : (arbitrated r v e hits).outcome ≡ Accepted → (arbitrated r v e hits).result.consumed_by ≡ (arbitration r v e hits).consumed_by
-    unfolding arbitrated concluded
-    told_consumer y = ap (λ (o : Outcome). (result_if (is_accepted o) (arbitrated r v e hits).registry.revision (arbitration r v e hits)).consumed_by) y
+    module _ (x : ArbitrationResult) (y : (arbitrated r v e hits).outcome ≡ Ok x) where
+      accepted_as : (call_settled.outcome ≡ Ok tt) × (answer ≡ x)
+      unfolding arbitrated concluded
+      accepted_as = accepted_value call_settled.outcome answer x y
 
-    pub delivered : (arbitrated r v e hits).outcome ≡ Accepted → all (λ d. is_open r d.surface) (entries_of deliveries (arbitrated r v e hits).result.deliveries) ≡ true
-    delivered y = ap (λ (t : Deliveries). all to_open (entries_of deliveries t)) (told_deliveries y) ∙ all_open (event_view y)
+      event_view : lookup_of r.views.arena v ≡ Live
+      event_view = status_live (view_status r.views v) InvalidView StaleView (then_first (view_refusal r.views v) _ (then_last (damage_refusal r) _
+          (settled_accepted (arbitrate_refusal r v (own_hits e hits) (resolved_outcome (resolution r v e))) r _ accepted_as.0)))
 
-    pub consumed : (h : GenerationalHandle) → (arbitrated r v e hits).outcome ≡ Accepted → (arbitrated r v e hits).result.consumed_by ≡ Some h → is_open r h ≡ true
-    consumed h y q =
-        let x = (call.claims).consumer_last (everyone r v) r v e hits h (sym (told_consumer y) ∙ q) in
-        let d : InputDelivery = record { surface = h; observed = false } in
-        let both = sym (all_append to_open x.front (d ∷ [])) ∙ ap (all to_open) (sym x.is) ∙ all_open (event_view y) in
-        and_left (is_open r h) true (and_right (all to_open x.front) (is_open r h && true) both)
+      told_deliveries : x.deliveries ≡ (arbitration r v e hits).deliveries
+      told_deliveries = ap (λ (a : ArbitrationResult). a.deliveries) (sym accepted_as.1)
+
+      told_consumer : x.consumed_by ≡ (arbitration r v e hits).consumed_by
+      told_consumer = ap (λ (a : ArbitrationResult). a.consumed_by) (sym accepted_as.1)
+
+      pub delivered : all (λ d. is_open r d.surface) (entries_of deliveries x.deliveries) ≡ true
+      delivered = ap (λ (t : Deliveries). all to_open (entries_of deliveries t)) told_deliveries ∙ all_open event_view
+
+      pub consumed : (h : GenerationalHandle) → x.consumed_by ≡ Some h → is_open r h ≡ true
+      consumed h q =
+          let z = (call.claims).consumer_last (everyone r v) r v e hits h (sym told_consumer ∙ q) in
+          let d : InputDelivery = record { surface = h; observed = false } in
+          let both = sym (all_append to_open z.front (d ∷ [])) ∙ ap (all to_open) (sym z.is) ∙ all_open event_view in
+          and_left (is_open r h) true (and_right (all to_open z.front) (is_open r h && true) both)

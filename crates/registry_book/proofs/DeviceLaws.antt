@@ -1,9 +1,9 @@
 -- A device's captures go in every live view, slot after slot, and in the book alike; the lists of a device's and of a view's captures are those of the book.
+use Rattle.std.specs.Prelude.{Option, None, Some, Ok}
 use Prim.Native.Nat.{ℕ, zero, suc, ◌≤◌, ◌<◌}
 use mathlib.Core.Path.{◌≡◌, refl, sym, ap, ◌∙◌, subst}
 use mathlib.Core.Bool.{Bool, true, false, cond, not, ◌&&◌}
 use mathlib.Core.List.{List, map}
-use mathlib.Core.Option.{Option}
 use native.Mathlib.Omega.{arith}
 use borrow.Author.Tests.{eqb-true}
 use lib.Dec.{eqb}
@@ -18,23 +18,18 @@ use Rattle.handles.specs.Slots.{slot_at, lookup_of}
 use Rattle.handles.specs.declared.arena.Arena.{Arena}
 use Rattle.handles.specs.declared.arena.SlotStatus.TheVariants.{Live}
 use Rattle.handles.specs.declared.GenerationalHandle.{GenerationalHandle}
-use Rattle.handles.specs.declared.OptionalHandle.TheVariants as O
 use Rattle.handles.proofs.LookupLaws.{live_facts}
 use Rattle.handles.proofs.SlotLaws.{by_same}
-use Rattle.maps.specs.Captures.{captures}
+use Rattle.maps.specs.Captures.{captures, PointerCaptures}
 use Rattle.maps.specs.MapTables.{is_some, retained}
 use Rattle.maps.specs.declared.captures.Capture.{Capture}
-use Rattle.maps.specs.declared.captures.PointerCaptures.{PointerCaptures}
 use Rattle.maps.specs.declared.keys.InputDeviceId.{InputDeviceId}
-use Rattle.records.specs.declared.error.Outcome.TheVariants.{Accepted}
-use Rattle.records.specs.declared.layers.Layers.{Layers}
+use Rattle.records.specs.Layers.{Layers, layers, is_live}
 use Rattle.composition_state.specs.declared.registry.CompositionRegistry.{CompositionRegistry}
 use Rattle.records.specs.declared.view.ViewRecord.{ViewRecord}
-use Rattle.records.specs.declared.view.ViewTable.{ViewTable}
+use Rattle.records.specs.Views.{ViewTable, no_view, view_at, view_slots, view_status}
 use Rattle.composition_state.specs.Damage.{view_handle}
-use Rattle.records.specs.Layers.{layers, is_live}
-use Rattle.composition_state.specs.Registry.{with_views, settled, answered}
-use Rattle.records.specs.Views.{no_view, view_at, view_slots, view_status}
+use Rattle.composition_state.specs.Registry.{outcome_of, with_views, settled, answered}
 use Rattle.composition_input.specs.Captures.{primary, capture, is_of_device, loses_primary, left_view, taken_at, device_captures, cleared_at, device_cleared, device_refusal, release_device_pointer_captures}
 use Rattle.composition_arbitration.specs.Targets.{is_among}
 use Rattle.composition_soundness.proofs.CaseLaws.{live_is}
@@ -52,6 +47,7 @@ use Rattle.registry_book.proofs.HeldLaws.{Neat, live_few, held_view, held_kept}
 use Rattle.registry_book.proofs.AgreeLaws.{follows, HasPrimary, Mapped, views_follow}
 use Rattle.registry_book.proofs.PrimaryLaws.{none≢some, found_kept, new_captures, old_layers, still_mapped}
 use Rattle.registry_book.proofs.ViewLaws.{neat_views}
+use Rattle.composition_state.proofs.SettleLaws.{without_value}
 
 lower : {i n : ℕ} → i < suc n → (i ≡ n → ⊥) → i < n
 lower {i} {n} a b = omega arith
@@ -95,11 +91,11 @@ module _ (value generation : ℕ) where
       ≡ keep (λ x. not (is_taken x)) (map (in_view g) (entries_of captures v.pointer_captures))
   left_held g v =
       let l = entries_of captures v.pointer_captures in
-      ap (λ (t : PointerCaptures). map (in_view g) (entries_of captures t)) (new_captures (loses_primary value generation v.pointer_captures) O.None (left v.pointer_captures) v)
+      ap (λ (t : PointerCaptures). map (in_view g) (entries_of captures t)) (new_captures (loses_primary value generation v.pointer_captures) None (left v.pointer_captures) v)
       ∙ ap (map (in_view g)) (entries_packed captures (keep (λ e. not (is_of_device value generation e)) l)) ∙ sym (keep_map (in_view g) (λ x. not (is_taken x)) l)
 
   left_mapped : (v : ViewRecord) → CaptureParts v.pointer_captures → Mapped v → Mapped (left_view value generation v)
-  left_mapped v x m = still_mapped (loses_primary value generation v.pointer_captures) O.None (left v.pointer_captures) v (λ h s q. none≢some q) (λ h s q. kept h s (m h q))
+  left_mapped v x m = still_mapped (loses_primary value generation v.pointer_captures) None (left v.pointer_captures) v (λ h s q. none≢some q) (λ h s q. kept h s (m h q))
     where
       kept : (h : GenerationalHandle) → loses_primary value generation v.pointer_captures ≡ false → HasPrimary h v.pointer_captures → HasPrimary h (left v.pointer_captures)
       kept h s y = by_test (is_of_device value generation (capture primary h))
@@ -178,7 +174,7 @@ module _ (value generation : ℕ) where
         (λ g h l m. (
           ap (λ (x : Arena). is_live (lookup_of x g)) all_cleared.slots ∙ l,
           ap (λ (x : ViewRecord). is_among h (entries_of layers x.surfaces)) (record_left g (live_is (view_status r.views g) l))
-              ∙ ap (λ (t : Layers). is_among h (entries_of layers t)) (old_layers (loses_primary value generation (view_at r.views g).pointer_captures) O.None (left (view_at r.views g).pointer_captures) (view_at r.views g))
+              ∙ ap (λ (t : Layers). is_among h (entries_of layers t)) (old_layers (loses_primary value generation (view_at r.views g).pointer_captures) None (left (view_at r.views g).pointer_captures) (view_at r.views g))
               ∙ m,
         ))
         (λ g l. let e = was_live g (live_is (view_status after g) l) in
@@ -191,12 +187,12 @@ module _ (value generation : ℕ) where
         (record { agrees = a; keeps = record { stays = λ h o. (o, refl) } })
 
     by_list : (s : Bool) → eqb (length (device_captures r.views value generation)) 0 ≡ s
-        → (cond s (answered (device_refusal r value generation) r) (settled (device_refusal r value generation) r (with_views after r))).outcome ≡ Accepted
+        → (cond s (answered (device_refusal r value generation) r) (settled (device_refusal r value generation) r (with_views after r))).outcome ≡ Ok tt
         → Follows r (cond s (answered (device_refusal r value generation) r) (settled (device_refusal r value generation) r (with_views after r))).registry (without_captures is_taken b)
     by_list true z y = none_taken (eqb-true _ 0 z)
     by_list false z y = follows (without_captures is_taken b) (device_refusal r value generation) r (with_views after r) y (λ o. left_follows)
 
-    pub release_device : (release_device_pointer_captures r value generation).outcome ≡ Accepted
+    pub release_device : outcome_of (release_device_pointer_captures r value generation) ≡ Ok tt
         → Follows r (release_device_pointer_captures r value generation).registry (without_captures (is_of_map_device (record { value = value; generation = generation })) b)
     unfolding release_device_pointer_captures
-    release_device y = by_list (eqb (length (device_captures r.views value generation)) 0) refl y
+    release_device y = by_list (eqb (length (device_captures r.views value generation)) 0) refl (sym (without_value _ _) ∙ y)

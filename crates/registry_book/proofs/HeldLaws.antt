@@ -21,10 +21,9 @@ use Rattle.handles.proofs.LookupLaws.{live_facts}
 use Rattle.maps.specs.Captures.{captures}
 use Rattle.maps.specs.declared.captures.Capture.{Capture}
 use Rattle.records.specs.declared.view.ViewRecord.{ViewRecord}
-use Rattle.records.specs.declared.view.ViewTable.{ViewTable}
+use Rattle.records.specs.Views.{ViewTable, no_view, view_at, view_status, with_view}
 use Rattle.composition_state.specs.Damage.{view_handle}
 use Rattle.records.specs.Layers.{is_live}
-use Rattle.records.specs.Views.{no_view, view_at, view_status, with_view}
 use Rattle.composition_soundness.proofs.CaseLaws.{either, live_is}
 use Rattle.composition_soundness.proofs.LiveLaws.{one_live, used_few, filled_live}
 use Rattle.composition_soundness.proofs.WindowLaws.{all_slots}

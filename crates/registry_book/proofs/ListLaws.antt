@@ -1,8 +1,8 @@
 -- What a test keeps of a list where it is known of every element, of a list's image and of an insertion into that: by induction on the list.
+use Rattle.std.specs.Prelude.{Some}
 use mathlib.Core.Path.{◌≡◌, refl, ap, ◌∙◌}
 use mathlib.Core.Bool.{Bool, true, not, ◌&&◌}
 use mathlib.Core.List.{List, [], ◌∷◌, ◌++◌, append_assoc, map}
-use mathlib.Core.Option.{some}
 use native.Mathlib.Omega.{arith}
 use borrow.Author.Tests.{not-true}
 use lib.ListN.{length}
@@ -88,15 +88,15 @@ module _ {E K : Type 0} (key : E → K) {lt same : K → K → Bool} (o : Ordere
       (by_test (same k (key e)) (λ t. clash h.0 (ap (λ (j : K). lt j (key e)) (o.same_eq k (key e) t) ∙ o.irrefl (key e))) (λ t. ap not t))
       (over_other l h.1)
 
-  sorted_removed : (e : E) (l : List E) → Sorted key lt l → lookup key same k l ≡ some e → q e ≡ true → remove key same k l ≡ keep (λ f. not (is_taken f)) l
+  sorted_removed : (e : E) (l : List E) → Sorted key lt l → lookup key same k l ≡ Some e → q e ≡ true → remove key same k l ≡ keep (λ f. not (is_taken f)) l
   sorted_removed e [] s h y = refl
   sorted_removed e (f ∷ l) s h y = by_test (same k (key f))
-      (λ t. let here : some f ≡ some e = simp t at h in
+      (λ t. let here : Some f ≡ Some e = simp t at h in
       let is : f ≡ e = cc in
       let z : q f ≡ true = ap q is ∙ y in
       simp (t, z) (keep_as (λ x. not (same k (key x))) (λ x. not (is_taken x)) (λ x. not (same k (key x))) (λ x u. rw (not-true (same k (key x)) u)) l
       (over_other l (rw (o.same_eq k (key f) t) s.0))))
       (λ t. simp t (ap (λ (m : List E). f ∷ m) (sorted_removed e l s.1 (simp t at h) y)))
 
-  pub found_removed : (e : E) (l : List E) → rising key lt l ≡ true → lookup key same k l ≡ some e → q e ≡ true → remove key same k l ≡ keep (λ f. not (same k (key f) && q f)) l
+  pub found_removed : (e : E) (l : List E) → rising key lt l ≡ true → lookup key same k l ≡ Some e → q e ≡ true → remove key same k l ≡ keep (λ f. not (same k (key f) && q f)) l
   found_removed e l r h y = sorted_removed e l (rising_sorted key o l r) h y

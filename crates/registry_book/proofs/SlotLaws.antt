@@ -1,4 +1,5 @@
 -- A view is created empty, and one that is closed has no panel, so no capture either: the captures of all views stay; and a registry just started has nothing, as the book.
+use Rattle.std.specs.Prelude.{is_ok, Ok}
 use Prim.Native.Nat.{ℕ, ◌≤◌, ◌<◌}
 use mathlib.Core.Path.{◌≡◌, refl, sym, ap, ◌∙◌, subst}
 use mathlib.Core.Bool.{true}
@@ -25,18 +26,17 @@ use Rattle.handles.proofs.LookupLaws.{live_facts}
 use Rattle.maps.specs.Captures.{captures}
 use Rattle.maps.specs.declared.captures.Capture.{Capture}
 use Rattle.records.specs.declared.error.CompositionError.TheVariants.{Capacity, ViewInUse, InvalidView, StaleView}
-use Rattle.records.specs.declared.error.Outcome.TheVariants.{Accepted}
 use Rattle.composition_state.specs.declared.registry.CompositionLimits.{CompositionLimits}
 use Rattle.composition_state.specs.declared.registry.CompositionRegistry.{CompositionRegistry}
 use Rattle.records.specs.declared.view.ViewRecord.{ViewRecord}
-use Rattle.records.specs.declared.view.ViewTable.{ViewTable}
+use Rattle.records.specs.Views.{ViewTable, fresh_view, no_view, view_at, view_status, view_refusal, with_view, views_with}
 use Rattle.composition_state.specs.Damage.{damage_refusal}
-use Rattle.records.specs.Errors.{is_accepted, refusal_if}
+use Rattle.records.specs.Errors.{refusal_if}
 use Rattle.records.specs.Layers.{layers, is_live}
 use Rattle.composition_state.specs.Registry.{with_views, window_refusal}
 use Rattle.composition_state.specs.Start.{start_refusal, fresh_registry, started}
-use Rattle.records.specs.Views.{fresh_view, no_view, view_at, view_status, view_refusal, with_view, views_with}
 use Rattle.composition_state.proofs.SettleLaws.{then_last, if_accepted}
+use Rattle.composition_state.specs.Registry.{outcome_of}
 use Rattle.composition_panels.specs.Windows.{create_view_refusal, new_view, create_view, has_layers, close_view_refusal, close_view}
 use Rattle.composition_arbitration.specs.Targets.{is_among}
 use Rattle.composition_soundness.proofs.CaseLaws.{then_first, status_live, live_is, by_handle}
@@ -47,7 +47,7 @@ use Rattle.book.specs.Book.{Held, Book, empty_book}
 use Rattle.registry_book.specs.Agreement.{is_open, view_of, in_view, held_in, is_held_well, Agrees, Follows}
 use Rattle.registry_book.proofs.ListLaws.{all_every, keep_every, no_length, none_left}
 use Rattle.registry_book.proofs.HeldLaws.{Neat, held_of, Drops, held_kept}
-use Rattle.registry_book.proofs.AgreeLaws.{follows, layers_at, LayersStay, Mapped, AllMapped, views_follow}
+use Rattle.registry_book.proofs.AgreeLaws.{follows, made_follows, layers_at, LayersStay, Mapped, AllMapped, views_follow}
 use Rattle.registry_book.proofs.PrimaryLaws.{none≢some}
 use Rattle.registry_book.proofs.ViewLaws.{neat_views, well_in}
 
@@ -103,9 +103,9 @@ module _ (r : CompositionRegistry) (p : Parts r) (b : Book) (a : Agrees r b) whe
         (λ d. let e = others_live r.views.arena made issues g d (live_is (view_status more g) l) in
         subst Mapped (sym (record_old g e)) (λ h m. a.single_mapped g h (ap is_live e) m)))
 
-  pub create_view_lem : (window : GenerationalHandle) → (create_view r window).outcome ≡ Accepted → Follows r (create_view r window).registry b
+  pub create_view_lem : (window : GenerationalHandle) → outcome_of (create_view r window) ≡ Ok tt → Follows r (create_view r window).registry b
   unfolding create_view
-  create_view_lem window y = follows b (create_view_refusal r window) r _ y (λ o.
+  create_view_lem window y = made_follows (new_view r).handle b (create_view_refusal r window) r _ y (λ o.
       let full = if_accepted (eqb r.views.arena.live r.limits.max_views) Capacity (then_last (window_refusal r.windows window) _ (then_last (damage_refusal r) _ o)) in
       let few : r.limits.max_views ≤ 64 = omega (arith, (bounds r p).views) in
       new_follows window (may_issue r.views.arena _ p.views r.first_generation few full (bounds r p).named))
@@ -141,7 +141,7 @@ module _ (r : CompositionRegistry) (p : Parts r) (b : Book) (a : Agrees r b) whe
         (λ d. (ap is_live (stays_live r.views.arena v g d (live_is (view_status r.views g) l)), m)))
         (λ g l h m. a.single_mapped g h (ap is_live (was_live r.views.arena v g (live_is (view_status fewer g) l))) m)
 
-  pub close_view_lem : (v : GenerationalHandle) → (close_view r v).outcome ≡ Accepted → Follows r (close_view r v).registry b
+  pub close_view_lem : (v : GenerationalHandle) → (close_view r v).outcome ≡ Ok tt → Follows r (close_view r v).registry b
   unfolding close_view
   close_view_lem v y = follows b (close_view_refusal r v) r _ y (λ o.
       let o₁ = then_last (damage_refusal r) _ o in
@@ -165,7 +165,7 @@ module _ (session : GenerationalHandle) (epoch : ℕ) (limits : CompositionLimit
     single_mapped = λ view h l q. absurd (none_live view (live_is _ l));
   }
 
-  pub start : (started session epoch limits revision generation).outcome ≡ Accepted → Agrees (started session epoch limits revision generation).registry empty_book
-  start q = by_test (is_accepted (start_refusal session epoch limits generation))
+  pub start : (started session epoch limits revision generation).outcome ≡ Ok tt → Agrees (started session epoch limits revision generation).registry empty_book
+  start q = by_test (is_ok (start_refusal session epoch limits generation))
       (λ t. rw t fresh_agrees)
-      (λ t. clash (ap is_accepted (rw t at q)) t)
+      (λ t. clash (ap is_ok (rw t at q)) t)

@@ -15,12 +15,10 @@ use Rattle.handles.specs.declared.GenerationalHandle.{GenerationalHandle}
 use Rattle.handles.proofs.HandleLaws.{handles}
 use Rattle.maps.specs.Captures.{captures}
 use Rattle.maps.specs.declared.captures.Capture.{Capture}
-use Rattle.records.specs.declared.layers.Layers.{Layers}
+use Rattle.records.specs.Layers.{Layers, layers}
 use Rattle.composition_state.specs.declared.registry.CompositionRegistry.{CompositionRegistry}
 use Rattle.records.specs.declared.view.ViewRecord.{ViewRecord}
-use Rattle.records.specs.declared.view.ViewTable.{ViewTable}
-use Rattle.records.specs.Layers.{layers}
-use Rattle.records.specs.Views.{no_view, view_at, view_status, with_view}
+use Rattle.records.specs.Views.{ViewTable, no_view, view_at, view_status, with_view}
 use Rattle.composition_input.specs.Focus.{with_view_record}
 use Rattle.composition_arbitration.specs.Targets.{is_among}
 use Rattle.composition_soundness.proofs.CaseLaws.{live_is, by_handle}

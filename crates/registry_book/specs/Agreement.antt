@@ -1,12 +1,10 @@
 -- How the book's captures and panels' views stand to a registry: both are read from it, and each panel that holds a
 -- capture is a live panel of that view.
-use Rattle.std.specs.Prelude.{ℕ, ◌≡◌, Bool, true, false, ◌&&◌, cond, List, [], ◌++◌, map}
-use Rattle.std.proofs.Math.Option.{some}
+use Rattle.std.specs.Prelude.{ℕ, ◌≡◌, Bool, true, false, ◌&&◌, cond, List, [], ◌++◌, map, Some}
 use Rattle.lists.specs.Below.{iter_below}
 use Rattle.lists.specs.Lists.{all}
 use Rattle.lists.specs.Tables.{entries_of}
 use Rattle.handles.specs.declared.GenerationalHandle.{GenerationalHandle}
-use Rattle.handles.specs.declared.OptionalHandle.TheVariants.{Some}
 use Rattle.handles.specs.Handles.{same_handle}
 use Rattle.handles.specs.Slots.{slot_at}
 use Rattle.maps.specs.declared.captures.Capture.{Capture}
@@ -14,11 +12,10 @@ use Rattle.maps.specs.Captures.{captures, capture_key}
 use Rattle.maps.specs.Keys.{pointer_key}
 use Rattle.maps.specs.MapTables.{found}
 use Rattle.composition_state.specs.declared.registry.CompositionRegistry.{CompositionRegistry}
-use Rattle.records.specs.declared.view.ViewTable.{ViewTable}
+use Rattle.records.specs.Views.{ViewTable, view_at, view_slots, view_status}
 use Rattle.composition_state.specs.Damage.{view_handle}
 use Rattle.records.specs.Layers.{layers, is_live}
 use Rattle.records.specs.Surfaces.{descriptor_of, surface_status}
-use Rattle.records.specs.Views.{view_at, view_slots, view_status}
 use Rattle.composition_input.specs.Captures.{primary, capture}
 use Rattle.composition_arbitration.specs.Targets.{is_among}
 use Rattle.book.specs.Book.{Held, Book, home_of}
@@ -50,7 +47,7 @@ pub record Agrees (r : CompositionRegistry) (b : Book) : Type 0 where
   -- the book has the registry's captures
   pub captures_held : held_in r.views ≡ b.captures
   -- the book knows each live panel's view
-  pub homes_known : (h : GenerationalHandle) → is_open r h ≡ true → home_of h b.homes ≡ some (view_of r h)
+  pub homes_known : (h : GenerationalHandle) → is_open r h ≡ true → home_of h b.homes ≡ Some (view_of r h)
   pub held_well : all (is_held_well r) b.captures ≡ true
   -- a live panel is a layer of its view, which is live
   pub layered : (h : GenerationalHandle) → is_open r h ≡ true
@@ -60,7 +57,7 @@ pub record Agrees (r : CompositionRegistry) (b : Book) : Type 0 where
   pub single_mapped : (view h : GenerationalHandle) → is_live (view_status r.views view) ≡ true
       → (view_at r.views view).pointer_capture ≡ Some h
       → found captures capture_key (pointer_key primary) (view_at r.views view).pointer_captures
-      ≡ some (capture primary h)
+      ≡ Some (capture primary h)
 
 -- live panels stay live, in their views
 pub record Keeps (r after : CompositionRegistry) : Type 0 where

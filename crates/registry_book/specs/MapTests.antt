@@ -1,7 +1,6 @@
 -- Captures as the registry's maps test and order them. That the book's own tests and order say the same is proved in
 -- `history`.
-use Rattle.std.specs.Prelude.{Bool, ◌&&◌}
-use Rattle.std.proofs.Math.Option.{Option, none, some}
+use Rattle.std.specs.Prelude.{Bool, ◌&&◌, Option, None, Some}
 use Rattle.lists.specs.Maps.{insert}
 use Rattle.lists.specs.Orders.{lex_lt}
 use Rattle.handles.specs.declared.GenerationalHandle.{GenerationalHandle}
@@ -30,8 +29,8 @@ is_map_entry p h x = key_same (pointer_key p) (capture_key x.capture) && is_held
 -- the panel gets the pointer in its own view. A panel that no attach has noted has no view, and nothing is kept: after
 -- an accepted capture this is never met, since the captured panel is live and was attached in this list of calls
 abbrev pub captured_in : Option GenerationalHandle → CompositionPointerId → GenerationalHandle → Book → Book
-captured_in none p h b = b
-captured_in (some view) p h b = with_captures (insert map_place place_lt (capture_in view p h) b.captures) b
+captured_in None p h b = b
+captured_in (Some view) p h b = with_captures (insert map_place place_lt (capture_in view p h) b.captures) b
 
 unfoldable pub captured : CompositionPointerId → GenerationalHandle → Book → Book
 captured p h b = captured_in (home_of h b.homes) p h b

@@ -1,9 +1,9 @@
 -- The whole registry as numbers: its dump.
 use Rattle.std.specs.Prelude.{List, [], ◌∷◌, ◌++◌}
 use Rattle.handles.specs.declared.arena.Arena.{Arena}
-use Rattle.records.specs.declared.shortcut.Shortcuts.{Shortcuts}
-use Rattle.records.specs.declared.surface.SurfaceTable.{SurfaceTable}
-use Rattle.records.specs.declared.view.ViewTable.{ViewTable}
+use Rattle.records.specs.Shortcuts.{Shortcuts}
+use Rattle.records.specs.Surfaces.{SurfaceTable}
+use Rattle.records.specs.Views.{ViewTable}
 use Rattle.composition_state.specs.declared.registry.CompositionLimits.{CompositionLimits}
 use Rattle.composition_state.specs.declared.registry.CompositionRegistry.{CompositionRegistry}
 use Rattle.answer_numbers.specs.Groups.{handle_numbers}

@@ -3,7 +3,7 @@ use Rattle.composition_state.specs.declared.registry.CompositionRegistry.{Compos
 use Rattle.composition_state.specs.Settles.{Settles}
 use Rattle.composition_panels.proofs.ClaimLaws as panels
 use Rattle.composition_input.proofs.ClaimLaws as inputs
-use Rattle.composition_shortcuts.specs.declared.register.Registrations.{Registrations}
+use Rattle.composition_shortcuts.specs.Registrations.{Registrations}
 use Rattle.composition_shortcuts.specs.Register.{registration_list, of_mask}
 use Rattle.composition_shortcuts.proofs.ClaimLaws as shortcuts
 use Rattle.calls.specs.declared.call.PanelCall.{PanelCall}

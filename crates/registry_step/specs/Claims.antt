@@ -2,7 +2,7 @@
 -- 21 has written nothing.
 use Rattle.composition_state.specs.declared.registry.CompositionRegistry.{CompositionRegistry}
 use Rattle.composition_state.specs.Settles.{Settles}
-use Rattle.composition_shortcuts.specs.declared.register.Registrations.{Registrations}
+use Rattle.composition_shortcuts.specs.Registrations.{Registrations}
 use Rattle.calls.specs.declared.call.PanelCall.{PanelCall}
 use Rattle.calls.specs.declared.call.InputCall.{InputCall}
 use Rattle.calls.specs.declared.call.ShortcutCall.{ShortcutCall}

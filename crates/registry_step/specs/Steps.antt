@@ -1,20 +1,18 @@
 -- The calls on the registry alone that list nothing, each sent to the definition of its call.
-use Rattle.handles.specs.declared.OptionalHandle.TheVariants as handle
-use Rattle.composition_state.specs.declared.registry.Changed.{Changed}
+use Rattle.records.specs.declared.view.ViewInputState.{ViewInputState}
+use Rattle.geometry.specs.declared.metrics.ViewMetrics.{ViewMetrics}
+use Rattle.std.specs.Prelude.{None, Some, Option}
+use Rattle.composition_state.specs.Registry.{Changed}
 use Rattle.composition_state.specs.declared.registry.CompositionRegistry.{CompositionRegistry}
-use Rattle.composition_panels.specs.declared.answer.Created.{Created}
-use Rattle.composition_panels.specs.declared.answer.MetricsUpdated.{MetricsUpdated}
-use Rattle.composition_panels.specs.declared.answer.OptionalMetrics.{OptionalMetrics}
-use Rattle.composition_panels.specs.declared.answer.OptionalMetrics.TheVariants as metrics
-use Rattle.composition_panels.specs.Windows.{create_window, close_window, create_view, close_view}
-use Rattle.composition_panels.specs.Metrics.{update_view_metrics}
+use Rattle.std.specs.Result.{result_ok}
+use Rattle.composition_state.specs.Registry.{outcome_of}
+use Rattle.composition_panels.specs.Windows.{Created, create_window, close_window, create_view, close_view}
+use Rattle.composition_panels.specs.Metrics.{MetricsUpdated, update_view_metrics}
 use Rattle.composition_panels.specs.Panels.{attach_surface, update_surface_geometry, update_surface_input_policy}
-use Rattle.composition_input.specs.declared.answer.OptionalInputState.{OptionalInputState}
-use Rattle.composition_input.specs.declared.answer.OptionalInputState.TheVariants as state
-use Rattle.composition_input.specs.declared.answer.Suspended.{Suspended}
+use Rattle.composition_input.specs.Focus.{Suspended}
 use Rattle.composition_input.specs.Focus.{set_focus, begin_ime, end_ime, suspend_view_input}
 use Rattle.composition_input.specs.Captures.{primary, capture_pointer_for, release_pointer_for, release_pointer}
-use Rattle.composition_shortcuts.specs.declared.register.Registrations.{Registrations}
+use Rattle.composition_shortcuts.specs.Registrations.{Registrations}
 use Rattle.composition_shortcuts.specs.Register.{register_surface_system_shortcut_set, registration_list, of_mask}
 use Rattle.calls.specs.declared.call.PanelCall.{PanelCall}
 use Rattle.calls.specs.declared.call.PanelCall.TheVariants as panel
@@ -27,29 +25,29 @@ use Rattle.calls.specs.declared.shown.Shown.TheVariants as shown
 use Rattle.registry_step.specs.declared.steps.RegistryStepped.{RegistryStepped}
 
 -- the metrics that an update made; a refused one made none
-abbrev pub metrics_shown : OptionalMetrics → Shown
-metrics_shown metrics.None = shown.Nothing
-metrics_shown (metrics.Some m) = shown.Metrics m
+abbrev pub metrics_shown : Option ViewMetrics → Shown
+metrics_shown None = shown.Nothing
+metrics_shown (Some m) = shown.Metrics m
 
 -- what a suspend let go; a refused one let nothing go
-abbrev pub state_shown : OptionalInputState → Shown
-state_shown state.None = shown.Nothing
-state_shown (state.Some s) = shown.InputState s
+abbrev pub state_shown : Option ViewInputState → Shown
+state_shown None = shown.Nothing
+state_shown (Some s) = shown.InputState s
 
 -- a call that makes no handle answers none, and one with nothing to show shows nothing
 abbrev pub of_changed : Changed → RegistryStepped
-of_changed c = record { outcome = c.outcome; handle = handle.None; shown = shown.Nothing; registry = c.registry }
+of_changed c = record { outcome = c.outcome; handle = None; shown = shown.Nothing; registry = c.registry }
 
 abbrev pub of_created : Created → RegistryStepped
-of_created c = record { outcome = c.outcome; handle = c.handle; shown = shown.Nothing; registry = c.registry }
+of_created c = record { outcome = outcome_of c; handle = result_ok c.outcome; shown = shown.Nothing; registry = c.registry }
 
 abbrev pub of_metrics : MetricsUpdated → RegistryStepped
 of_metrics u =
-    record { outcome = u.outcome; handle = handle.None; shown = metrics_shown u.metrics; registry = u.registry }
+    record { outcome = outcome_of u; handle = None; shown = metrics_shown (result_ok u.outcome); registry = u.registry }
 
 abbrev pub of_suspended : Suspended → RegistryStepped
 of_suspended s =
-    record { outcome = s.outcome; handle = handle.None; shown = state_shown s.released; registry = s.registry }
+    record { outcome = outcome_of s; handle = None; shown = state_shown (result_ok s.outcome); registry = s.registry }
 
 -- RULES.md, Windows and views; Panels: attach, geometry, policy
 unfoldable pub panel_step : CompositionRegistry → PanelCall → RegistryStepped

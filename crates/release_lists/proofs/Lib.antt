@@ -1,2 +1,1 @@
-pub mod CaptureLaws
 pub mod ReleaseLaws

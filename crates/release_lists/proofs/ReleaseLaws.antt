@@ -1,4 +1,4 @@
--- Lists of releases: a table has 640 places, read off what its type owns; presses go panel by panel as the least panel's come first; captures are added one by one.
+-- Lists of releases: presses go panel by panel as the least panel's come first; captures are added one by one.
 use Prim.Native.Nat.{ℕ, ◌+◌, ◌≤◌, ◌<◌}
 use mathlib.Core.Path.{◌≡◌, refl, sym, ap, ◌∙◌}
 use mathlib.Core.Bool.{Bool, true, false, cond, not}
@@ -7,9 +7,6 @@ use native.Mathlib.Numerals.{add-one}
 use native.Mathlib.Omega.{arith}
 use lib.ListN.{length, take, get_or, length-append, length-take}
 use lib.Seq.{take-suc}
-use mir.Val.{Val}
-use denote.Laws.{Is}
-use denote.Struct.Laws as LL
 use Rattle.lists.specs.Lists.{keep, all}
 use Rattle.lists.specs.Tables.{Shape, entries_of, packed}
 use Rattle.lists.proofs.ListLaws.{by_test, clash, and_left, and_right, and_both, keep_append, keep_split}
@@ -18,22 +15,12 @@ use Rattle.handles.specs.Handles.{same_handle, handle_lt}
 use Rattle.handles.specs.declared.GenerationalHandle.{GenerationalHandle}
 use Rattle.handles.proofs.HandleLaws.{handles}
 use Rattle.maps.specs.Keys.{pointer_key}
-use Rattle.maps.specs.Bindings.{bindings}
+use Rattle.maps.specs.Bindings.{bindings, Bindings}
 use Rattle.maps.specs.declared.bindings.Binding.{Binding}
-use Rattle.maps.specs.declared.bindings.Bindings.{Bindings}
 use Rattle.maps.specs.declared.captures.Capture.{Capture}
 use Rattle.maps.proofs.MapTableLaws.{keys}
-use Rattle.release_lists.specs.declared.releases.Releases.{Releases}
-use Rattle.release_lists.specs.Releases.{releases, is_on, is_not_below, IsLeast, placed, by_panel, in_panel_order, is_pair, is_listed, capture_release, add_capture, add_captures}
+use Rattle.release_lists.specs.Releases.{Releases, releases, is_on, is_not_below, IsLeast, placed, by_panel, in_panel_order, is_pair, is_listed, capture_release, add_capture, add_captures}
 use Rattle.lists.proofs.KeepLaws.{keep_in, keep_apart, all_kept, all_implied, keep_all, all_keep, all_both}
-use Rattle.release_lists.specs.contracts.releases.Releases as T
-use Rattle.release_lists.proofs.releases.Releases.TheLaws as T'
-
-pub long : (t : Releases) {vs : List Val} → Is T.the_row t vs → length t.items ≡ 640
-long t {vs} p = (LL.owed T.the_type T'.the_laws t vs p).0.1.0.1
-
-pub few : (t : Releases) {vs : List Val} → Is T.the_row t vs → length (entries_of releases t) ≤ 640
-few t p = table.few releases t (long t p)
 
 -- a table that is packed is packed by its own entries
 module _ {E T : Type 0} (s : Shape E T) (t : T) (l : List E) (e : t ≡ packed s l) where
@@ -193,14 +180,14 @@ least_more h l e i = by_test (handle_lt e.surface h)
 take_more : {E : Type 0} (l : List E) (i : ℕ) (d : E) → i < length l → take (i + 1) l ≡ take i l ++ (get_or l i d ∷ [])
 take_more l i d h = rw (add-one, take-suc l i d h)
 
--- the first press, and one turn of a loop over a table of presses
-module _ (t : Bindings) (d : Binding) where
-  pub least_start : 0 < length (entries_of bindings t) → IsLeast (get_or t.entries 0 d).surface (take 1 (entries_of bindings t))
-  least_start h = rw (take_more (entries_of bindings t) 0 d h, table.entry bindings t 0 d h) (least_one (get_or t.entries 0 d))
+-- the first press, and one turn of a loop over the presses after it
+pub least_start : (e : Binding) (rest : List Binding) → IsLeast e.surface (e ∷ take 0 rest)
+least_start e [] = least_one e
+least_start e (f ∷ rest) = least_one e
 
-  pub least_turn : (i : ℕ) → i < length (entries_of bindings t) → (h : GenerationalHandle) → IsLeast h (take i (entries_of bindings t))
-      → IsLeast (cond (handle_lt (get_or t.entries i d).surface h) (get_or t.entries i d).surface h) (take (i + 1) (entries_of bindings t))
-  least_turn i within h l = rw (take_more (entries_of bindings t) i d within, table.entry bindings t i d within) (least_more h (take i (entries_of bindings t)) (get_or t.entries i d) l)
+pub least_turn : (e : Binding) (rest : List Binding) (i : ℕ) (d : Binding) → i < length rest → (h : GenerationalHandle) → IsLeast h (e ∷ take i rest)
+    → IsLeast (cond (handle_lt (get_or rest i d).surface h) (get_or rest i d).surface h) (e ∷ take (i + 1) rest)
+least_turn e rest i d within h l = rw (take_more rest i d within) (least_more h (e ∷ take i rest) (get_or rest i d) l)
 
 -- ---- captures after presses
 pub add_none : (l : List Binding) → add_captures l [] ≡ l
@@ -247,11 +234,11 @@ captures_listed_lem l (c ∷ cs) =
     let rest = presses_first (add_capture l c) cs in
     and_both (ap (is_listed c) rest.1 ∙ still_listed c (add_capture l c) rest.0 (listed_added c l)) (captures_listed_lem (add_capture l c) cs)
 
--- one turn of a loop that adds the captures of a table of any shape
-module _ {T : Type 0} (s : Shape Capture T) (t : T) (i : ℕ) (d : Capture) (within : i < length (entries_of s t)) (l : List Binding) where
-  pub add_turn : add_capture (add_captures l (take i (entries_of s t))) (get_or (s.all t) i d) ≡ add_captures l (take (i + 1) (entries_of s t))
+-- one turn of a loop that adds captures
+module _ (cs : List Capture) (i : ℕ) (d : Capture) (within : i < length cs) (l : List Binding) where
+  pub add_turn : add_capture (add_captures l (take i cs)) (get_or cs i d) ≡ add_captures l (take (i + 1) cs)
   unfolding add_captures
-  add_turn = rw (take_more (entries_of s t) i d within, table.entry s t i d within, add_append l (take i (entries_of s t)) (get_or (s.all t) i d ∷ []))
+  add_turn = rw (take_more cs i d within, add_append l (take i cs) (get_or cs i d ∷ []))
 
-  pub add_room : length l ≤ 128 → length (entries_of s t) ≤ 512 → length (add_captures l (take i (entries_of s t))) < 640
-  add_room h k = omega (arith, length_adds l (take i (entries_of s t)), length-take i (entries_of s t))
+  pub add_room : length l ≤ 128 → length cs ≤ 512 → length (add_captures l (take i cs)) < 640
+  add_room h k = omega (arith, length_adds l (take i cs), length-take i cs)

@@ -1,29 +1,23 @@
 -- RULES.md, Release order: what is listed, and in which order.
-use Rattle.std.specs.Prelude.{◌<◌, ◌≡◌, refl, Bool, true, cond, not, ◌&&◌, List, [], ◌∷◌, ◌++◌, length}
+use Rattle.std.specs.Prelude.{◌<◌, ◌≡◌, Bool, true, cond, not, ◌&&◌, List, [], ◌∷◌, ◌++◌, length}
 use Rattle.lists.specs.Lists.{keep, first, all}
-use Rattle.lists.specs.Tables.{Shape}
-use Rattle.handles.specs.Handles.{handle_of, same_handle, handle_lt}
+use Rattle.lists.specs.Tables.{Shape, table}
+use Rattle.lists.specs.declared.table.Table.{Table}
+use Rattle.handles.specs.Handles.{same_handle, handle_lt}
 use Rattle.handles.specs.declared.GenerationalHandle.{GenerationalHandle}
 use Rattle.maps.specs.Keys.{pointer_key, key_same}
 use Rattle.maps.specs.MapTables.{is_some}
-use Rattle.maps.specs.Bindings.{key_of_binding}
+use Rattle.maps.specs.Bindings.{no_binding, key_of_binding}
 use Rattle.maps.specs.declared.keys.BindingKey.TheVariants.{Pointer}
 use Rattle.maps.specs.declared.bindings.Binding.{Binding}
 use Rattle.maps.specs.declared.captures.Capture.{Capture}
-use Rattle.release_lists.specs.declared.releases.Releases.{Releases}
 
 -- at most 128 presses and 32 captures in each of 16 views
+abbrev pub Releases : Type 0
+Releases = Table Binding 640
+
 abbrev pub releases : Shape Binding Releases
-releases = record {
-  size = 640;
-  blank =
-      record { key = Pointer (record { device = 0; device_generation = 0; contact = 0 }); surface = handle_of 0 0 };
-  make = λ l n. record { items = l; len = n };
-  all = λ t. t.items;
-  len = λ t. t.len;
-  all_make = λ l n. refl;
-  len_make = λ l n. refl;
-}
+releases = table 640 no_binding
 
 -- a press of the panel
 abbrev pub is_on : GenerationalHandle → Binding → Bool

@@ -1,6 +1,8 @@
 // The list of releases: of presses in their order, of presses panel by panel, of presses and captures.
-ghost use Rattle.std.specs.Prelude.{◌≡◌, cond, [], ◌++◌, ◌+◌, ◌≤◌, ◌<◌, length};
-ghost use Rattle.lists.specs.Tables.{entries_of, packed, pushed};
+ghost use Rattle.std.specs.Prelude.{◌≡◌, cond, ◌<◌, ◌≤◌, [], ◌∷◌, length, MatchOption};
+ghost use Rattle.std.specs.List.{fold};
+ghost use Rattle.lists.specs.Lists.{first};
+ghost use Rattle.lists.specs.Tables.{entries_of, packed, pushed_within};
 ghost use Rattle.handles.specs.Handles.{handle_lt};
 ghost use Rattle.maps.specs.Bindings.{bindings};
 ghost use Rattle.maps.specs.Captures.{captures};
@@ -8,199 +10,128 @@ ghost use Rattle.release_lists.specs.Captures.{capture_list};
 ghost use Rattle.release_lists.specs.Releases.{releases, IsLeast, by_panel, is_pair, is_listed, add_capture, add_captures};
 
 use crate::captures::CaptureList;
-use handles::{GenerationalHandle, handle_lt, same_handle};
-use lists::both;
+use handles::GenerationalHandle;
+use lists::table::Table;
 use maps::bindings::{Binding, Bindings};
 use maps::captures::{Capture, PointerCaptures};
-use maps::keys::{BindingKey, CompositionPointerId, binding_key, key_same, pointer_key};
-use maps::tests::EntryTest;
+use maps::keys::{BindingKey, pointer_key};
+use maps::sorted_map::Entry;
 
 // A release says by its key what is synthesized: a pointer's cancel, a key's up or a gamepad's disconnect.
 // The longest list is that of 128 presses and 512 captures.
-#[derive(Clone, Copy)]
-pub struct Releases {
-    pub items: [Binding; 640],
-    pub len: usize,
-}
+pub type Releases = Table<Binding, 640>;
 
 fn is_pair(capture: Capture, release: Binding) -> bool
     ensures { result ≡ is_pair capture release }
 {
-    let key = release.key;
-    both(
-        key_same(pointer_key(capture.pointer), binding_key(key)),
-        same_handle(capture.surface, release.surface),
-    )
+    pointer_key(capture.pointer) == release.key() && capture.surface == release.surface
 }
 
-impl Releases {
-    pub fn new() -> Self
-        ensures { result ≡ packed releases [] }
-    {
-        let key = BindingKey::Pointer(CompositionPointerId {
-            device: 0,
-            device_generation: 0,
-            contact: 0,
-        });
-        let surface = GenerationalHandle {
-            index: 0,
-            generation: 0,
-        };
-        let blank = Binding { key, surface };
-        Self {
-            items: [blank; 640],
-            len: 0,
-        }
-    }
+// The list with presses put after its own, as far as there is room.
+fn extended(list: Releases, presses: Bindings) -> Releases
+    ensures { result ≡ fold (pushed_within releases) list (entries_of bindings presses) }
+{
+    list.extend(presses.entries().iter().copied())
+}
 
-    // How many releases are listed: a stored count past the table is read as a full table.
-    pub fn count(self) -> usize
-        ensures { result ≡ length (entries_of releases self) }
-    {
-        let n = self.len;
-        if n < 640 {
-            return n;
-        }
-        640
-    }
+// The releases of presses, in their order.
+pub fn of_presses(presses: Bindings) -> Releases
+    ensures { result ≡ packed releases (entries_of bindings presses) }
+{
+    extended(Releases::new(), presses)
+}
 
-    fn push(self, entry: Binding) -> Self
-        requires { self.len < 640 }
-        ensures { result ≡ pushed releases self entry }
-    {
-        let at = self.len;
-        let mut next = self;
-        next.items[at] = entry;
-        next.len = at + 1;
-        next
-    }
+fn paired(capture: Capture, releases: &[Binding]) -> Option<Binding>
+    ensures { result ≡ first (is_pair capture) releases.now }
+{
+    releases
+        .iter()
+        .copied()
+        .find(|release| is_pair(capture, *release))
+}
 
-    // The list with presses put after its own. Each is stored in its place, since the list by value would be copied
-    // once for each.
-    fn extend(self, from: Bindings) -> Self
-        requires self_value { self ≡ packed releases (entries_of releases self) }
-        requires from_len_bound { length (entries_of releases self) + length (entries_of bindings from) ≤ 640 }
-        ensures { result ≡ packed releases (entries_of releases self ++ entries_of bindings from) }
-    {
-        let mut next = self;
-        let n = from.count();
-        let mut i = 0;
-        while i < n {
-            let entry = from.entries[i];
-            let at = next.len;
-            next.items[at] = entry;
-            next.len = at + 1;
-            i += 1;
-        }
-        next
-    }
+fn has_pair(list: Releases, capture: Capture) -> bool
+    ensures { result ≡ is_listed capture (entries_of releases list) }
+{
+    paired(capture, list.entries()).is_some()
+}
 
-    // The releases of presses, in their order.
-    pub fn of_presses(presses: Bindings) -> Self
-        ensures { result ≡ packed releases (entries_of bindings presses) }
-    {
-        Releases::new().extend(presses)
+fn add(list: Releases, capture: Capture) -> Releases
+    requires list_value { list ≡ packed releases (entries_of releases list) }
+    requires list_len_bound { length (entries_of releases list) < 640 }
+    ensures { result ≡ packed releases (add_capture (entries_of releases list) capture) }
+{
+    if has_pair(list, capture) {
+        return list;
     }
-
-    fn has_pair(self, capture: Capture) -> bool
-        ensures { result ≡ is_listed capture (entries_of releases self) }
-    {
-        let n = self.count();
-        let mut i = 0;
-        while i < n {
-            let release = self.items[i];
-            if is_pair(capture, release) {
-                return true;
-            }
-            i += 1;
-        }
-        false
-    }
-
-    fn add(self, capture: Capture) -> Self
-        requires self_value { self ≡ packed releases (entries_of releases self) }
-        requires self_len_bound { length (entries_of releases self) < 640 }
-        ensures { result ≡ packed releases (add_capture (entries_of releases self) capture) }
-    {
-        if self.has_pair(capture) {
-            return self;
-        }
-        let pointer = capture.pointer;
-        let surface = capture.surface;
-        let key = BindingKey::Pointer(pointer);
-        self.push(Binding { key, surface })
-    }
+    list.push_within(Binding {
+        key: BindingKey::Pointer(capture.pointer),
+        surface: capture.surface,
+    })
 }
 
 fn lesser(a: GenerationalHandle, b: GenerationalHandle) -> GenerationalHandle
     ensures { result ≡ cond (handle_lt a b) a b }
 {
-    if handle_lt(a, b) {
-        return a;
-    }
-    b
+    if a < b { a } else { b }
 }
 
-// The least panel that holds one of the presses.
-fn least_panel(presses: Bindings) -> GenerationalHandle
-    requires { 0 < length (entries_of bindings presses) }
-    ensures { IsLeast result (entries_of bindings presses) }
+// The least panel that holds the first press or one of the rest.
+fn least_of(first: Binding, rest: &[Binding]) -> GenerationalHandle
+    ensures { IsLeast result (first ∷ rest.now) }
 {
-    let n = presses.count();
-    let first = presses.entries[0];
     let mut least = first.surface;
-    let mut i = 1;
-    while i < n {
-        let entry = presses.entries[i];
-        let surface = entry.surface;
-        least = lesser(surface, least);
-        i += 1;
+    for press in rest {
+        least = lesser(press.surface, least);
     }
     least
 }
 
-// The releases of presses panel by panel.
+// The least panel that holds one of the presses.
+fn least_panel(presses: &[Binding]) -> Option<GenerationalHandle>
+    ensures { MatchOption result (presses.now ≡ []) (λ surface. IsLeast surface presses.now) }
+{
+    let (first, rest) = presses.split_first()?;
+    Some(least_of(*first, rest))
+}
+
+// The releases of presses panel by panel. A turn ends one panel's presses, so what is left says what the next one is.
 pub fn by_panel(presses: Bindings) -> Releases
     ensures { result ≡ packed releases (by_panel (entries_of bindings presses)) }
 {
     let mut list = Releases::new();
     let mut left = presses;
-    let mut n = presses.count();
-    while n > 0 {
-        let surface = least_panel(left);
-        list = list.extend(left.retain(EntryTest::OnSurface(surface)));
-        left = left.retain(EntryTest::NotOnSurface(surface));
-        n = left.count();
+    while let Some(surface) = least_panel(left.entries()) {
+        let taken = left.retain(|press| surface == press.surface);
+        list = extended(list, taken);
+        left = left.retain(|press| surface != press.surface);
+    }
+    list
+}
+
+fn add_all(presses: Bindings, captures: &[Capture]) -> Releases
+    requires { length captures.now ≤ 512 }
+    ensures { result ≡ packed releases (add_captures (entries_of bindings presses) captures.now) }
+{
+    let mut list = of_presses(presses);
+    for capture in captures {
+        list = add(list, *capture);
     }
     list
 }
 
 // The presses of a device, then its captures.
+#[tactic(auto, unfolding(crate::specs::Releases::add_captures))]
 pub fn add_captures(presses: Bindings, list: CaptureList) -> Releases
     ensures { result ≡ packed releases (add_captures (entries_of bindings presses) (entries_of capture_list list)) }
 {
-    let n = list.count();
-    let mut next = Releases::of_presses(presses);
-    let mut i = 0;
-    while i < n {
-        let capture = list.items[i];
-        next = next.add(capture);
-        i += 1;
-    }
-    next
+    add_all(presses, list.entries())
 }
 
 // The presses of a view's panels, then its captures.
+#[tactic(auto, unfolding(crate::specs::Releases::add_captures))]
 pub fn add_view_captures(presses: Bindings, held: PointerCaptures) -> Releases
     ensures { result ≡ packed releases (add_captures (entries_of bindings presses) (entries_of captures held)) }
 {
-    let n = held.count();
-    let mut next = Releases::of_presses(presses);
-    let mut i = 0;
-    while i < n {
-        let capture = held.entries[i];
-        next = next.add(capture);
-        i += 1;
-    }
-    next
+    add_all(presses, held.entries())
 }

@@ -4,9 +4,6 @@ use mathlib.Core.Bool.{Bool}
 use mathlib.Core.List.{List}
 use mathlib.Core.Path.{◌≡◌, ap, ◌∙◌}
 use lib.ListN.{length}
-use mir.Val.{Val}
-use denote.Laws.{Is}
-use denote.Struct.Laws as LL
 use Rattle.lists.proofs.ListLaws.{by_test}
 use Rattle.counter.specs.declared.step.Counter.{Counter}
 use Rattle.script.specs.Lines.{line_of, is_skipped}
@@ -20,14 +17,11 @@ use Rattle.script_calls.specs.declared.script_call.SessionCall.TheVariants.{Dige
 use Rattle.answer_columns.specs.Pieces.{text_then}
 use Rattle.line_lengths.specs.Lengths.{StateLengths}
 use Rattle.line_lengths.proofs.LineLaws.{claims}
-use Rattle.line_lengths.proofs.TypeLaws.{state_lengths}
 use Rattle.replay.specs.Lines.{asked_by, answered_line}
 use Rattle.replay.specs.Sessions.{next_call, finished, answered_step, answered_plain, answered_no_call, answered_session, answered_as}
 use Rattle.replay.specs.Starts.{started_registry, started_router}
 use Rattle.replay.specs.declared.session.Answered.{Answered}
 use Rattle.replay.specs.declared.session.Session.{Session}
-use Rattle.replay.specs.contracts.session.Session as S
-use Rattle.replay.proofs.session.Session.TheLaws as S'
 use Rattle.replay.specs.Replay.{line_answered}
 use Rattle.replay.specs.Texts.{plain_text, session_text, asked_text, called_text, answer_text}
 
@@ -69,8 +63,6 @@ line_whole s x l buf room =
     by_test (is_skipped l) (λ t. rw t) (λ t. rw t (called_whole s x (line_of l) buf room))
 
 -- what the line of a session that a program holds leaves in its buffer is its whole text
-pub answered_whole : (s : Session) {vs : List Val} → Is S.the_row s vs → (l buf : List ℕ) → 524288 ≤ length buf
+pub answered_whole : (s : Session) → StateLengths s.counter → (l buf : List ℕ) → 524288 ≤ length buf
     → {x : List ℕ × Answered} → x ≡ line_answered s l buf → place_in x ≡ text_then (answer_text s l) buf
-answered_whole s {vs} p l buf room e =
-    let x = state_lengths s.counter (LL.owed S.the_type S'.the_laws s vs p).1.1.0 in
-    ap place_in e ∙ line_whole s x l buf room
+answered_whole s x l buf room e = ap place_in e ∙ line_whole s x l buf room

@@ -30,13 +30,9 @@ fn asked_by(line: Result<Line, LineFault>) -> Option<ScriptCall>
 pub fn answer_line(out: &mut [u8], session: Session, line: Result<Line, LineFault>) -> Answered
     ensures { ◌≡◌ {A = List ℕ × Answered} (out.new, result) (answered_line session line out.old) }
 {
-    let asked = asked_by(line);
-    let calls = next_call(session.calls);
-    answer_call(
-        out,
-        calls,
-        session.are_digests_shown,
-        session.counter,
-        asked,
-    )
+    let session = Session {
+        calls: next_call(session.calls),
+        ..session
+    };
+    answer_call(out, session, asked_by(line))
 }

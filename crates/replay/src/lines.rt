@@ -14,9 +14,11 @@ use crate::answered::answer_line;
 use crate::session::{Answered, Session};
 use crate::starts::first_counter;
 use line_input::{is_line_skipped, parse_line, take_line};
+use line_lengths::state_lengths_held;
 
 // After a turn: the session, how many bytes of the next line are there, where the chunk goes on, and how many bytes of
-// an answer stand at the front of the buffer; where a line ended, how many bytes of it are in the line's buffer.
+// an answer stand at the front of the buffer; where a line ended, how many bytes of it are in the line's buffer. The
+// counts are no slices: the caller lends both buffers again for the next turn.
 #[derive(Clone, Copy)]
 pub struct Turn {
     pub session: Session,
@@ -30,11 +32,10 @@ pub struct Turn {
 pub fn first_session() -> Session
     ensures { result ≡ first_session }
 {
-    let counter = first_counter();
     Session {
         calls: 0,
         are_digests_shown: false,
-        counter,
+        counter: first_counter(),
     }
 }
 
@@ -47,6 +48,7 @@ pub fn answer_bytes(session: Session, line: &[u8], len: usize, out: &mut [u8]) -
     ensures fact_2 { ◌≡◌ {A = List ℕ × ℕ} (out.new, result.at)
         (text_then (answer_text session (take len line.now)) out.old) }
 {
+    state_lengths_held(session.counter);
     if is_line_skipped(line, len) {
         return Answered { session, at: 0 };
     }

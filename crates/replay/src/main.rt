@@ -119,28 +119,26 @@ fn serve_some<R: Read>(
         };
     }
     let next = answer_chunk(rt, reading, &chunk[..n], line, out);
-    let told = next.told;
     Served {
         reading: next,
-        is_open: told.is_written,
+        is_open: next.told.is_written,
     }
 }
 
 // Nothing is read yet.
 fn first_reading() -> Reading {
-    let session = first_session();
-    let told = Told {
-        lines: 0,
-        is_written: true,
-    };
     Reading {
-        session,
+        session: first_session(),
         len: 0,
-        told,
+        told: Told {
+            lines: 0,
+            is_written: true,
+        },
     }
 }
 
-// Serves the input to its end. A proved loop has to end, so this one has a number of turns that no run uses up. A last line that no line feed ends is a line too.
+// Serves the input to its end. A proved loop has to end, so this one has a number of turns that no run uses up. A last
+// line that no line feed ends is a line too.
 fn serve(rt: &(impl Input + Print + Eprint), line: &mut [u8], out: &mut [u8])
     requires { 524288 ≤ length out.old }
 {

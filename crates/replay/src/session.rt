@@ -30,145 +30,121 @@ pub struct Answered {
 }
 
 // The end of the line, and the session after it.
-fn finish(
-    out: &mut [u8],
-    at: usize,
-    calls: u64,
-    are_digests_shown: bool,
-    counter: Counter,
-) -> Answered
+fn finish(out: &mut [u8], at: usize, session: Session) -> Answered
     ensures { ◌≡◌ {A = List ℕ × Answered} (out.new, result)
-        (finished calls are_digests_shown counter (out.old, at)) }
+        (finished session.calls session.are_digests_shown session.counter (out.old, at)) }
 {
-    let end = put_end(out, at, counter, are_digests_shown);
-    let session = Session {
-        calls,
-        are_digests_shown,
-        counter,
-    };
-    Answered { session, at: end }
+    Answered {
+        session,
+        at: put_end(out, at, session.counter, session.are_digests_shown),
+    }
 }
 
-fn answer_step(
-    out: &mut [u8],
-    calls: u64,
-    are_digests_shown: bool,
-    counter: Counter,
-    call: Call,
-    lists: Lists,
-) -> Answered
+fn answer_step(out: &mut [u8], session: Session, call: Call, lists: Lists) -> Answered
     ensures { ◌≡◌ {A = List ℕ × Answered} (out.new, result)
-        (answered_step calls are_digests_shown counter call lists out.old) }
+        (answered_step session.calls session.are_digests_shown session.counter call lists out.old) }
 {
-    let stepped = step(counter, call, lists);
-    let at = put_answer(out, calls, call, stepped.answer, stepped.counter);
-    finish(out, at, calls, are_digests_shown, stepped.counter)
-}
-
-// A call that shows nothing beside its number.
-fn answer_plain(
-    out: &mut [u8],
-    calls: u64,
-    are_digests_shown: bool,
-    number: u64,
-    counter: Counter,
-) -> Answered
-    ensures { ◌≡◌ {A = List ℕ × Answered} (out.new, result)
-        (answered_plain calls are_digests_shown number counter out.old) }
-{
-    let at = put_plain(out, calls, number, counter.registry.revision);
-    finish(out, at, calls, are_digests_shown, counter)
-}
-
-fn answer_started(out: &mut [u8], calls: u64, are_digests_shown: bool, started: Started) -> Answered
-    ensures { ◌≡◌ {A = List ℕ × Answered} (out.new, result)
-        (answered_start calls are_digests_shown started out.old) }
-{
-    answer_plain(
+    let stepped = step(session.counter, call, lists);
+    let at = put_answer(out, session.calls, call, stepped.answer, stepped.counter);
+    finish(
         out,
-        calls,
-        are_digests_shown,
-        started.number,
-        started.counter,
+        at,
+        Session {
+            counter: stepped.counter,
+            ..session
+        },
     )
 }
 
-fn answer_no_call(out: &mut [u8], calls: u64, are_digests_shown: bool, counter: Counter) -> Answered
+// A call that shows nothing beside its number.
+fn answer_plain(out: &mut [u8], session: Session, number: u64) -> Answered
     ensures { ◌≡◌ {A = List ℕ × Answered} (out.new, result)
-        (answered_no_call calls are_digests_shown counter out.old) }
+        (answered_plain session.calls session.are_digests_shown number session.counter out.old) }
 {
-    let at = put_no_call(out, calls, counter.registry.revision);
-    finish(out, at, calls, are_digests_shown, counter)
+    let at = put_plain(
+        out,
+        session.calls,
+        number,
+        session.counter.registry.revision,
+    );
+    finish(out, at, session)
 }
 
-fn answer_state(out: &mut [u8], calls: u64, are_digests_shown: bool, counter: Counter) -> Answered
+fn answer_started(out: &mut [u8], session: Session, started: Started) -> Answered
     ensures { ◌≡◌ {A = List ℕ × Answered} (out.new, result)
-        (answered_session calls are_digests_shown counter State out.old) }
+        (answered_start session.calls session.are_digests_shown started out.old) }
 {
-    let at = put_state(out, calls, counter.registry);
-    finish(out, at, calls, are_digests_shown, counter)
+    answer_plain(
+        out,
+        Session {
+            counter: started.counter,
+            ..session
+        },
+        started.number,
+    )
 }
 
-fn answer_router_state(
-    out: &mut [u8],
-    calls: u64,
-    are_digests_shown: bool,
-    counter: Counter,
-) -> Answered
+fn answer_no_call(out: &mut [u8], session: Session) -> Answered
     ensures { ◌≡◌ {A = List ℕ × Answered} (out.new, result)
-        (answered_session calls are_digests_shown counter RouterState out.old) }
+        (answered_no_call session.calls session.are_digests_shown session.counter out.old) }
 {
-    let at = put_router_state(out, calls, counter.registry.revision, counter.router);
-    finish(out, at, calls, are_digests_shown, counter)
+    let at = put_no_call(out, session.calls, session.counter.registry.revision);
+    finish(out, at, session)
 }
 
-fn answer_session(
-    out: &mut [u8],
-    calls: u64,
-    are_digests_shown: bool,
-    counter: Counter,
-    asked: SessionCall,
-) -> Answered
+fn answer_state(out: &mut [u8], session: Session) -> Answered
     ensures { ◌≡◌ {A = List ℕ × Answered} (out.new, result)
-        (answered_session calls are_digests_shown counter asked out.old) }
+        (answered_session session.calls session.are_digests_shown session.counter State out.old) }
+{
+    let at = put_state(out, session.calls, session.counter.registry);
+    finish(out, at, session)
+}
+
+fn answer_router_state(out: &mut [u8], session: Session) -> Answered
+    ensures { ◌≡◌ {A = List ℕ × Answered} (out.new, result)
+        (answered_session session.calls session.are_digests_shown session.counter RouterState out.old) }
+{
+    let at = put_router_state(
+        out,
+        session.calls,
+        session.counter.registry.revision,
+        session.counter.router,
+    );
+    finish(out, at, session)
+}
+
+fn answer_session(out: &mut [u8], session: Session, asked: SessionCall) -> Answered
+    ensures { ◌≡◌ {A = List ℕ × Answered} (out.new, result)
+        (answered_session session.calls session.are_digests_shown session.counter asked out.old) }
 {
     match asked {
-        SessionCall::Digest(on) => answer_plain(out, calls, on, 0, counter),
-        SessionCall::New(given) => answer_started(
+        SessionCall::Digest(on) => answer_plain(
             out,
-            calls,
-            are_digests_shown,
-            start_registry(counter, given),
+            Session {
+                are_digests_shown: on,
+                ..session
+            },
+            0,
         ),
-        SessionCall::Router(limit) => answer_started(
-            out,
-            calls,
-            are_digests_shown,
-            start_router(counter, limit),
-        ),
-        SessionCall::State => answer_state(out, calls, are_digests_shown, counter),
-        SessionCall::RouterState => answer_router_state(out, calls, are_digests_shown, counter),
+        SessionCall::New(given) => {
+            answer_started(out, session, start_registry(session.counter, given))
+        }
+        SessionCall::Router(limit) => {
+            answer_started(out, session, start_router(session.counter, limit))
+        }
+        SessionCall::State => answer_state(out, session),
+        SessionCall::RouterState => answer_router_state(out, session),
     }
 }
 
 // The answer line stands at the front of the buffer.
-pub fn answer_call(
-    out: &mut [u8],
-    calls: u64,
-    are_digests_shown: bool,
-    counter: Counter,
-    asked: Option<ScriptCall>,
-) -> Answered
+pub fn answer_call(out: &mut [u8], session: Session, asked: Option<ScriptCall>) -> Answered
     ensures { ◌≡◌ {A = List ℕ × Answered} (out.new, result)
-        (answered_as calls are_digests_shown counter asked out.old) }
+        (answered_as session.calls session.are_digests_shown session.counter asked out.old) }
 {
     match asked {
-        None => answer_no_call(out, calls, are_digests_shown, counter),
-        Some(ScriptCall::Session(own)) => {
-            answer_session(out, calls, are_digests_shown, counter, own)
-        }
-        Some(ScriptCall::Step(call, lists)) => {
-            answer_step(out, calls, are_digests_shown, counter, call, lists)
-        }
+        None => answer_no_call(out, session),
+        Some(ScriptCall::Session(own)) => answer_session(out, session, own),
+        Some(ScriptCall::Step(call, lists)) => answer_step(out, session, call, lists),
     }
 }

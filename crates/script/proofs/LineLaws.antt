@@ -4,9 +4,10 @@ use Rattle.std.specs.Prelude.{Option, None, Some, Err}
 use Rattle.std.specs.Option.{option_and_then}
 use Rattle.lists.proofs.ListLaws.{push_pad}
 use Rattle.lists.specs.Lists.{pad}
+use Rattle.lists.specs.Tables.{table, pushed, pushed_within}
 use borrow.Author.Tests.{le-leb, lt-leb, le-ltb, lt-ltb}
 use lib.Seq.{length-take-le, take-suc-set}
-use Rattle.script.specs.Lines.{zero_number, fields_of, with_number, called, gathered, line_of}
+use Rattle.script.specs.Lines.{Fields, zero_number, fields_of, with_number, called, gathered, line_of}
 use Rattle.script.specs.Numbers.{number_of}
 use Rattle.script.specs.Verbs.{verb_named}
 use Rattle.script.specs.Words.{first_word, later_words}
@@ -24,7 +25,12 @@ pub record Gathering (ws left : List (List ℕ)) (numbers : List Number) (count 
 pub start : (ws : List (List ℕ)) → Gathering ws ws (replicate 256 zero_number) 0
 start ws = record { long = refl; few = omega arith; padded = refl; answers = refl }
 
-fields_are : (l ns : List Number) (n : ℕ) → ns ≡ pad 256 zero_number l → length l ≡ n → fields_of l ≡ record { numbers = ns; count = n }
+-- a number put into a table that has room
+pub added : (t : Fields) (n : Number) → t.len < 256 → pushed_within (table 256 zero_number) t n ≡ record { items = set t.items t.len n; len = t.len + 1 }
+unfolding pushed_within pushed
+added t n h = rw (lt-ltb t.len 256 h)
+
+fields_are : (l ns : List Number) (n : ℕ) → ns ≡ pad 256 zero_number l → length l ≡ n → fields_of l ≡ record { items = ns; len = n }
 fields_are l ns n p q = rw (p, sym q)
 
 module _ (ws : List (List ℕ)) (numbers : List Number) (count : ℕ) where
@@ -35,7 +41,7 @@ module _ (ws : List (List ℕ)) (numbers : List Number) (count : ℕ) where
   unfolding gathered
   done left e g = g.answers ∙ rw e
 
-  pub fields_read : (left : List (List ℕ)) → Gathering ws left numbers count → fields_of (take count numbers) ≡ record { numbers = numbers; count = count }
+  pub fields_read : (left : List (List ℕ)) → Gathering ws left numbers count → fields_of (take count numbers) ≡ record { items = numbers; len = count }
   fields_read left g = fields_are _ numbers count g.padded (length_read left g)
 
   -- one word more

@@ -2,10 +2,10 @@
 use Rattle.std.specs.Prelude.{ℕ, Bool, true, false, cond, List, [], ◌∷◌, ◌++◌, eqb, ltb, leb, length, get_or, Option, None, Some, Result, Ok, Err}
 use Rattle.std.specs.Option.{option_and_then}
 use Rattle.lists.specs.Lists.{pad}
+use Rattle.lists.specs.declared.table.Table.{Table}
 use Rattle.script.specs.declared.fault.LineFault.{LineFault}
 use Rattle.script.specs.declared.fault.LineFault.TheVariants.{LongLine, UnknownVerb, MalformedNumber}
 use Rattle.script.specs.declared.number.Number.{Number}
-use Rattle.script.specs.declared.line.Fields.{Fields}
 use Rattle.script.specs.declared.line.Line.{Line}
 use Rattle.script.specs.declared.verb.Verb.{Verb}
 use Rattle.script.specs.Words.{first_word, later_words}
@@ -16,9 +16,13 @@ use Rattle.script.specs.Verbs.{verb_named}
 abbrev pub zero_number : Number
 zero_number = record { negative = false; magnitude = 0 }
 
+-- the numbers of a line
+abbrev pub Fields : Type 0
+Fields = Table Number 256
+
 -- a list of numbers as the fields of a line
 abbrev pub fields_of : List Number → Fields
-fields_of l = record { numbers = pad 256 zero_number l; count = length l }
+fields_of l = record { items = pad 256 zero_number l; len = length l }
 
 -- one number more, if there is a place for it
 abbrev pub with_number : List Number → Option Number → Option (List Number)

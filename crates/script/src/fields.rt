@@ -7,18 +7,14 @@ ghost use Rattle.script.specs.Ranges.{unsigned_of, sized_of, signed_of, flag_of}
 
 use crate::line::Fields;
 use crate::number::Number;
+use lists::array::item_or;
+use lists::table::Blank;
 
 // The number at an index; past the table it is 0.
 pub fn field(fields: Fields, i: usize) -> Number
-    ensures { result ≡ get_or fields.numbers i zero_number }
+    ensures { result ≡ get_or fields.items i zero_number }
 {
-    if i < 256 {
-        return fields.numbers[i];
-    }
-    Number {
-        negative: false,
-        magnitude: 0,
-    }
+    item_or(&fields.items, i, Number::BLANK)
 }
 
 // A number from 0 to `most`.

@@ -6,13 +6,10 @@ ghost use Rattle.script.specs.Lines.{line_of, is_skipped};
 use crate::fault::LineFault;
 use crate::number::{Number, read_number};
 use crate::verb::{Verb, verb_named};
+use lists::table::Table;
 
-// The numbers of a line, in fixed memory, as there is no heap. Unused places hold 0.
-#[derive(Clone, Copy)]
-pub struct Fields {
-    pub numbers: [Number; 256],
-    pub count: usize,
-}
+// The numbers of a line.
+pub type Fields = Table<Number, 256>;
 
 #[derive(Clone, Copy)]
 pub struct Line {
@@ -29,20 +26,13 @@ pub fn parse(line: &[u8]) -> Result<Line, LineFault>
     }
     let mut words = line.split(|b| *b == b' ');
     let verb = verb_named(words.next().unwrap_or(&[])).ok_or(LineFault::UnknownVerb)?;
-    let mut fields = Fields {
-        numbers: [Number {
-            negative: false,
-            magnitude: 0,
-        }; 256],
-        count: 0,
-    };
+    let mut fields = Fields::new();
     for word in words {
         let number = read_number(word).ok_or(LineFault::MalformedNumber)?;
-        if fields.count >= 256 {
+        if fields.len >= 256 {
             return Err(LineFault::MalformedNumber);
         }
-        fields.numbers[fields.count] = number;
-        fields.count += 1;
+        fields.push_in_place(number);
     }
     Ok(Line { verb, fields })
 }

@@ -1,11 +1,23 @@
 // A number as a script writes it: decimal, no leading zero, and a minus only before a negative one.
 ghost use Rattle.std.specs.Prelude.{◌≡◌};
+ghost use Rattle.script.specs.Lines.{zero_number};
 ghost use Rattle.script.specs.Numbers.{push_digit, digits_of, magnitude_of, number_of};
+
+use lists::table::Blank;
 
 #[derive(Clone, Copy)]
 pub struct Number {
     pub negative: bool,
     pub magnitude: u64,
+}
+
+impl Blank for Number {
+    ghost BLANK = { zero_number };
+
+    const BLANK: Self = Self {
+        negative: false,
+        magnitude: 0,
+    };
 }
 
 // The number with one more digit at its end, if it still fits 64 bits.

@@ -1,4 +1,4 @@
-// The verbs of a script, by name.
+// The verbs of a script, by name. Those of windows, input, closing and reads have the numbers of their calls.
 ghost use Rattle.std.specs.Prelude.{◌≡◌, map};
 ghost use Rattle.script.specs.Verbs.{verb_of, verb_named};
 
@@ -16,7 +16,7 @@ pub enum SessionVerb {
 // Windows, views and panels.
 #[derive(Clone, Copy)]
 pub enum PanelVerb {
-    CreateWindow,
+    CreateWindow = 0,
     CloseWindow,
     CreateView,
     UpdateViewMetrics,
@@ -29,7 +29,7 @@ pub enum PanelVerb {
 // Focus, captures and the input method.
 #[derive(Clone, Copy)]
 pub enum InputVerb {
-    SetFocus,
+    SetFocus = 8,
     CapturePointer,
     CapturePointerFor,
     ReleasePointer,
@@ -41,7 +41,7 @@ pub enum InputVerb {
 
 #[derive(Clone, Copy)]
 pub enum CloseVerb {
-    CloseSurface,
+    CloseSurface = 21,
     Shutdown,
 }
 
@@ -55,9 +55,9 @@ pub enum RouterVerb {
 // The calls that alter nothing.
 #[derive(Clone, Copy)]
 pub enum ReadVerb {
-    HitTestStack,
+    HitTestStack = 35,
     InversePoint,
-    ViewWindow,
+    ViewWindow = 26,
     ViewMetrics,
     ViewInputState,
     ViewPointerCaptures,

@@ -1,25 +1,29 @@
 -- The entries of a list read one by one: one more stands behind those so far, and one that is none leaves none.
 use Rattle.std.proofs.Common.{◌≡◌, ℕ, zero, suc, ◌+◌, ◌*◌, ◌-◌, ◌≤◌, ◌<◌, List, [], ◌∷◌, ◌++◌, length, take, get_or, set, refl, sym, ap, ◌∙◌, nat_lt, nat_le, Bool, true, false, cond, not, arith, add-one, length-append}
-use Rattle.std.specs.Option.{option_map, option_and_then}
-use Rattle.std.specs.Prelude.{Option, None, Some, ◌&&◌}
+use Rattle.std.specs.Option.{option_map, option_and_then, unwrap_or}
+use Rattle.std.specs.Prelude.{Option, None, Some, ◌&&◌, ℤ, pos, is_some, map}
 use mathlib.Core.List.{append-nil}
 use borrow.Author.Tests.{ltb-true, ltb-false, leb-true}
 use lib.Seq.{take_all, take-append-le, length-take-le, set_out, get_or-append_seam}
 use lib.ListN.{get_or-append}
 use Rattle.handles.specs.Handles.{handle_of}
 use Rattle.handles.specs.declared.GenerationalHandle.{GenerationalHandle}
+use Rattle.lists.specs.Below.{all_below}
 use Rattle.lists.specs.Lists.{pad}
 use Rattle.lists.specs.Tables.{packed}
-use Rattle.lists.proofs.ListLaws.{length_pad, push_pad}
+use Rattle.lists.specs.declared.table.Table.{Table}
+use Rattle.lists.proofs.ListLaws.{map_snoc, length_pad, push_pad}
 use Rattle.records.specs.declared.shortcut.SurfaceShortcutRegistration.{SurfaceShortcutRegistration}
-use Rattle.records.specs.declared.trace.Hits.{Hits}
-use Rattle.composition_shortcuts.specs.declared.register.Registrations.{Registrations}
+use Rattle.records.specs.Traces.{Hits}
+use Rattle.composition_shortcuts.specs.Registrations.{Registrations}
 use Rattle.script.specs.Ranges.{unsigned_of}
-use Rattle.script.specs.declared.line.Fields.{Fields}
+use Rattle.script.specs.Lines.{Fields}
 use Rattle.script.specs.declared.number.Number.{Number}
-use Rattle.script_calls.specs.Groups.{number_at, handle_at}
+use Rattle.script_calls.specs.Calls.{register_call, arbitrate_as, arbitrate_call}
+use Rattle.script_calls.specs.Groups.{number_at, u32_at, u64_at, handle_at}
 use Rattle.script_calls.specs.ListClaims.{ListClaims}
-use Rattle.script_calls.specs.ListFields.{placed, with_entry, all_read, handles_from, hits_of, hits_from, hits_at, no_registration, registration_at, list_from, registrations_of, registrations_from, registrations_at}
+use Rattle.script_calls.specs.ListFields.{i16_at, placed, with_entry, all_read, listed, handles_from, hits_of, hits_from, hits_at, no_registration, registration_of, registration_at, list_from, registrations_of, registrations_from, registrations_at}
+use Rattle.script_calls.specs.ListValues.{below, handle_value, registration_value, handle_values, registration_values}
 
 -- ---- what is read
 module _ {E : Type 0} (f : ℕ → Option E) where
@@ -88,7 +92,7 @@ module _ {E : Type 0} (n : ℕ) (z : E) where
           let cut : length (take n l) ≡ n = length-take-le n l h in
           rw (take-append-le n l (e ∷ []) h) (set_out (pad n z (take n l)) (length l) e (omega (arith, length_pad n z (take n l) (omega arith))))
 
-  held : (l : List E) → length l ≤ n → placed n z l ≡ pad n z l
+  pub held : (l : List E) → length l ≤ n → placed n z l ≡ pad n z l
   unfolding placed
   held l h = ap (pad n z) (take_all n l h)
 
@@ -97,41 +101,136 @@ module _ {E : Type 0} (n : ℕ) (z : E) where
   cut_off l h = let none : n - length (take n l) ≡ 0 = omega (arith, length-take-le n l h) in rw (none, append-nil)
 
 -- ---- a table of what is read, with its count
-module _ {E T : Type 0} (f : ℕ → Option E) (n : ℕ) (z : E) (make : ℕ → List E → T) where
-  abbrev listed : ℕ → Option T
-  listed k = option_map (λ l. make k (placed n z l)) (all_read f k)
+module _ {E : Type 0} (f : ℕ → Option E) (n : ℕ) (z : E) where
+  pub listed_none : (k m : ℕ) → f k ≡ None → k < m → listed n z f m ≡ None
+  listed_none k m e h = ap (option_map (λ l. record { items = placed n z l; len = m })) (read_none f m k e h)
 
-  listed_none : (k m : ℕ) → f k ≡ None → k < m → listed m ≡ None
-  listed_none k m e h = ap (option_map (λ l. make m (placed n z l))) (read_none f m k e h)
-
-  listed_more : (k : ℕ) (items : List E) (e : E) → listed k ≡ Some (make k items) → ((a b : List E) → make k a ≡ make k b → a ≡ b) → f k ≡ Some e → listed (k + 1) ≡ Some (make (k + 1) (set items k e))
-  listed_more k items e h same r = step (all_read f k) refl h
+  pub listed_more : (k : ℕ) (t : Table E n) (e : E) → listed n z f k ≡ Some t → t.len ≡ k → f k ≡ Some e → listed n z f (k + 1) ≡ Some (record { items = set t.items k e; len = k + 1 })
+  listed_more k t e h c r = step (all_read f k) refl h
     where
-      step : (o : Option (List E)) → all_read f k ≡ o → option_map (λ l. make k (placed n z l)) o ≡ Some (make k items) → listed (k + 1) ≡ Some (make (k + 1) (set items k e))
-      step None q h = absurd (let no : None ≡ Some (make k items) = h in cc)
+      step : (o : Option (List E)) → all_read f k ≡ o → option_map (λ l. record { items = placed n z l; len = k }) o ≡ Some t → listed n z f (k + 1) ≡ Some (record { items = set t.items k e; len = k + 1 })
+      step None q h = absurd (let no : None ≡ Some t = h in cc)
       step (Some l) q h =
-          let made : make k (placed n z l) ≡ make k items = cc in
+          let made : ◌≡◌ {A = Table E n} (record { items = placed n z l; len = k }) t = cc in
           let long : length l ≡ k = length_read f k l q in
-          ap (option_map (λ l. make (k + 1) (placed n z l))) (read_more f k ∙ ap (λ o. with_entry o (f k)) q ∙ ap (with_entry (Some l)) r)
-          ∙ ap (λ x. Some (make (k + 1) x)) (sym (push_placed n z l e) ∙ ap (λ j. set (placed n z l) j e) long ∙ ap (λ x. set x k e) (same (placed n z l) items made))
+          ap (option_map (λ l. record { items = placed n z l; len = k + 1 })) (read_more f k ∙ ap (λ o. with_entry o (f k)) q ∙ ap (with_entry (Some l)) r)
+          ∙ ap (λ x. Some (record { items = x; len = k + 1 })) (sym (push_placed n z l e) ∙ ap (λ j. set (placed n z l) j e) long ∙ ap (λ (x : Table E n). set x.items k e) made)
 
--- the hits and the registrations of a line
-module _ (fs : Fields) (i : ℕ) where
-  pub hits_more : (k : ℕ) (h : Hits) (e : GenerationalHandle) → hits_from fs i k ≡ Some h → h.len ≡ k → handle_at fs (i + 2 * k) ≡ Some e → hits_from fs i (k + 1) ≡ Some (record { items = set h.items k e; len = k + 1 })
+-- ---- the values at the places below n
+module _ {E : Type 0} (g : ℕ → E) where
+  length_each : (n : ℕ) → length (map g (below n)) ≡ n
+  unfolding below
+  length_each zero = refl
+  length_each (suc n) = ap length (map_snoc g (below n) n) ∙ length-append (map g (below n)) (g n ∷ []) ∙ ap (λ k. k + 1) (length_each n) ∙ add-one n
+
+  each_at : (n k : ℕ) (d : E) → k < n → get_or (map g (below n)) k d ≡ g k
+  unfolding below
+  each_at zero k d h = absurd (omega arith)
+  each_at (suc n) k d h = ap (λ l. get_or l k d) (map_snoc g (below n) n) ∙ step (each_at n k d) (nat_lt k n) refl
+    where
+      step : (k < n → get_or (map g (below n)) k d ≡ g k) → (t : Bool) → nat_lt k n ≡ t → get_or (map g (below n) ++ (g n ∷ [])) k d ≡ g k
+      step ih true t =
+          let l : k < n = ltb-true k n t in
+          get_or-append (map g (below n)) (g n ∷ []) d k (omega (arith, length_each n)) ∙ ih l
+      step ih false t =
+          let top : k ≡ n = omega (arith, ltb-false k n t) in
+          ap (λ j. get_or (map g (below n) ++ (g n ∷ [])) j d) (top ∙ sym (length_each n)) ∙ get_or-append_seam (map g (below n)) (g n) [] d ∙ ap g (sym top)
+
+  first_each : (m n : ℕ) → m ≤ n → take m (map g (below n)) ≡ map g (below m)
+  unfolding below
+  first_each m zero h = let e : m ≡ 0 = omega arith in ap (λ k. take k []) e ∙ ap (λ k. map g (below k)) (sym e)
+  first_each m (suc n) h = step (first_each m n) (nat_lt m (suc n)) refl
+    where
+      step : (m ≤ n → take m (map g (below n)) ≡ map g (below m)) → (t : Bool) → nat_lt m (suc n) ≡ t → take m (map g (below (suc n))) ≡ map g (below m)
+      step ih true t =
+          let l : m ≤ n = omega (arith, ltb-true m (suc n) t) in
+          ap (take m) (map_snoc g (below n) n) ∙ take-append-le m (map g (below n)) (g n ∷ []) (omega (arith, length_each n)) ∙ ih l
+      step ih false t =
+          let e : m ≡ suc n = omega (arith, ltb-false m (suc n) t) in
+          ap (λ k. take k (map g (below (suc n)))) e ∙ take_all (suc n) (map g (below (suc n))) (omega (arith, length_each (suc n))) ∙ ap (λ k. map g (below k)) (sym e)
+
+  module _ (m n : ℕ) (z : E) where
+    each_held : n ≤ m → placed m z (map g (below n)) ≡ pad m z (map g (below n))
+    unfolding placed
+    each_held h = ap (pad m z) (take_all m (map g (below n)) (omega (arith, length_each n)))
+
+    each_cut : m ≤ n → placed m z (map g (below n)) ≡ map g (below m)
+    unfolding placed
+    each_cut h = let none : m - length (map g (below m)) ≡ 0 = omega (arith, length_each m) in ap (pad m z) (first_each m n h) ∙ rw (none, append-nil)
+
+  read_every : (f : ℕ → Option E) → ((k : ℕ) (e : E) → f k ≡ Some e → g k ≡ e) → (n : ℕ) → all_read f n ≡ cond (all_below (λ k. is_some (f k)) n) (Some (map g (below n))) None
+  unfolding all_read below all_below
+  read_every f same zero = refl
+  read_every f same (suc n) = ap (λ o. with_entry o (f n)) (read_every f same n) ∙ step (all_below (λ k. is_some (f k)) n) (f n) refl
+    where
+      step : (b : Bool) (o : Option E) → f n ≡ o → with_entry (cond b (Some (map g (below n))) None) o ≡ cond (b && is_some o) (Some (map g (below n ++ (n ∷ [])))) None
+      step true None q = refl
+      step true (Some e) q = ap Some (ap (λ x. map g (below n) ++ (x ∷ [])) (sym (same n e q)) ∙ sym (map_snoc g (below n) n))
+      step false None q = refl
+      step false (Some e) q = refl
+
+-- a group whose fields are in their ranges is what they say
+handle_same : (o p : Option ℕ) (e : GenerationalHandle) → option_and_then (λ n. option_map (handle_of n) p) o ≡ Some e → handle_of (unwrap_or o 0) (unwrap_or p 0) ≡ e
+handle_same None p e h = absurd (let no : None ≡ Some e = h in cc)
+handle_same (Some n) None e h = absurd (let no : None ≡ Some e = h in cc)
+handle_same (Some n) (Some m) e h = cc
+
+registration_same : (o p : Option ℕ) (q : Option ℤ) (e : SurfaceShortcutRegistration) → option_and_then (λ mask. option_and_then (λ scope. option_map (registration_of mask scope) q) p) o ≡ Some e
+    → registration_of (unwrap_or o 0) (unwrap_or p 0) (unwrap_or q (pos 0)) ≡ e
+registration_same None p q e h = absurd (let no : None ≡ Some e = h in cc)
+registration_same (Some n) None q e h = absurd (let no : None ≡ Some e = h in cc)
+registration_same (Some n) (Some m) None e h = absurd (let no : None ≡ Some e = h in cc)
+registration_same (Some n) (Some m) (Some z) e h = cc
+
+-- a line with a list that is none makes no call
+no_arbitrate : (fs : Fields) → hits_at fs 10 ≡ None → arbitrate_call fs ≡ None
+unfolding arbitrate_call
+no_arbitrate fs h = ap (λ o. option_and_then (λ kind. option_and_then (arbitrate_as fs kind) o) (unsigned_of 10 (number_at fs 2))) h ∙ step (unsigned_of 10 (number_at fs 2))
+  where
+    step : (o : Option ℕ) → option_and_then (λ kind. option_and_then (arbitrate_as fs kind) None) o ≡ None
+    step None = refl
+    step (Some kind) = refl
+
+no_register : (fs : Fields) → registrations_at fs 3 ≡ None → register_call fs ≡ None
+unfolding register_call
+no_register fs h = let no : None ≡ registrations_at fs 3 = sym h in rw (sym no) refl
+
+module _ (fs : Fields) where
+  hits_out : (i n k : ℕ) → k < n → handle_at fs (i + 2 * k) ≡ None → hits_from fs i n ≡ None
   unfolding hits_from
-  hits_more k h e a c r = listed_more (λ k. handle_at fs (i + 2 * k)) 16 (handle_of 0 0) (λ n l. record { items = l; len = n }) k h.items e (a ∙ (λ j. Some (record { items = h.items; len = c j }))) (λ x y same. ap (λ (t : Hits). t.items) same) r
+  hits_out i n k h e = listed_none (λ k. handle_at fs (i + 2 * k)) 16 (handle_of 0 0) k n e h
 
-  pub hits_none : (k n : ℕ) → handle_at fs (i + 2 * k) ≡ None → k < n → hits_from fs i n ≡ None
+  registrations_out : (i n k : ℕ) → k < n → registration_at fs (i + 3 * k) ≡ None → registrations_from fs i n ≡ None
+  unfolding registrations_from
+  registrations_out i n k h e = listed_none (λ k. registration_at fs (i + 3 * k)) 64 no_registration k n e h
+
+  hits_at_out : (n k : ℕ) → unsigned_of 20 (number_at fs 10) ≡ Some n → k < n → handle_at fs (11 + 2 * k) ≡ None → hits_at fs 10 ≡ None
+  unfolding hits_at
+  hits_at_out n k c h e = ap (option_and_then (hits_from fs 11)) c ∙ hits_out 11 n k h e
+
+  registrations_at_out : (n k : ℕ) → unsigned_of 70 (number_at fs 3) ≡ Some n → k < n → registration_at fs (4 + 3 * k) ≡ None → registrations_at fs 3 ≡ None
+  unfolding registrations_at
+  registrations_at_out n k c h e = ap (option_and_then (registrations_from fs 4)) c ∙ registrations_out 4 n k h e
+
+  all_hits : (i n : ℕ) → hits_from fs i n ≡ cond (all_below (λ k. is_some (handle_at fs (i + 2 * k))) n) (Some (hits_of n (handle_values fs i n))) None
   unfolding hits_from
-  hits_none k n e h = listed_none (λ k. handle_at fs (i + 2 * k)) 16 (handle_of 0 0) (λ n l. record { items = l; len = n }) k n e h
+  all_hits i n =
+      ap (option_map (hits_of n)) (read_every (λ k. handle_value fs (i + 2 * k)) (λ k. handle_at fs (i + 2 * k)) (λ k e h. handle_same (u32_at fs (i + 2 * k)) (u32_at fs (i + 2 * k + 1)) e h) n)
+      ∙ step (all_below (λ k. is_some (handle_at fs (i + 2 * k))) n)
+    where
+      step : (b : Bool) → option_map (hits_of n) (cond b (Some (handle_values fs i n)) None) ≡ cond b (Some (hits_of n (handle_values fs i n))) None
+      step true = refl
+      step false = refl
 
-  pub registrations_more : (k : ℕ) (t : Registrations) (e : SurfaceShortcutRegistration) → registrations_from fs i k ≡ Some t → t.len ≡ k → registration_at fs (i + 3 * k) ≡ Some e → registrations_from fs i (k + 1) ≡ Some (record { items = set t.items k e; len = k + 1 })
-  unfolding registrations_from
-  registrations_more k t e a c r = listed_more (λ k. registration_at fs (i + 3 * k)) 64 no_registration (λ n l. record { items = l; len = n }) k t.items e (a ∙ (λ j. Some (record { items = t.items; len = c j }))) (λ x y same. ap (λ (t : Registrations). t.items) same) r
-
-  pub registrations_none : (k n : ℕ) → registration_at fs (i + 3 * k) ≡ None → k < n → registrations_from fs i n ≡ None
-  unfolding registrations_from
-  registrations_none k n e h = listed_none (λ k. registration_at fs (i + 3 * k)) 64 no_registration (λ n l. record { items = l; len = n }) k n e h
+  all_registrations : (i n : ℕ) → registrations_from fs i n ≡ cond (all_below (λ k. is_some (registration_at fs (i + 3 * k))) n) (Some (registrations_of n (registration_values fs i n))) None
+  unfolding registrations_from registration_at
+  all_registrations i n =
+      ap (option_map (registrations_of n)) (read_every (λ k. registration_value fs (i + 3 * k)) (λ k. registration_at fs (i + 3 * k)) (λ k e h. registration_same (u64_at fs (i + 3 * k)) (unsigned_of 2 (number_at fs (i + 3 * k + 1))) (i16_at fs (i + 3 * k + 2)) e h) n)
+      ∙ step (all_below (λ k. is_some (registration_at fs (i + 3 * k))) n)
+    where
+      step : (b : Bool) → option_map (registrations_of n) (cond b (Some (registration_values fs i n)) None) ≡ cond b (Some (registrations_of n (registration_values fs i n))) None
+      step true = refl
+      step false = refl
 
 pub claims : ListClaims
 unfolding hits_from registrations_from packed
@@ -142,6 +241,18 @@ claims = record {
   registrations_held = λ fs i n l e h. let long = length_read (λ k. registration_at fs (i + 3 * k)) n l e in ap (option_map (registrations_of n)) e ∙ (λ j. Some (record { items = held 64 no_registration l (omega arith) j; len = n }));
   hits_cut = λ fs i n l e h. let long = length_read (λ k. handle_at fs (i + 2 * k)) n l e in ap (option_map (hits_of n)) e ∙ (λ j. Some (record { items = cut_off 16 (handle_of 0 0) l (omega arith) j; len = n }));
   registrations_cut = λ fs i n l e h. let long = length_read (λ k. registration_at fs (i + 3 * k)) n l e in ap (option_map (registrations_of n)) e ∙ (λ j. Some (record { items = cut_off 64 no_registration l (omega arith) j; len = n }));
+  every_hits = all_hits;
+  every_registrations = all_registrations;
+  hit_value_at = λ fs i n k h. each_at (λ k. handle_value fs (i + 2 * k)) n k (handle_of 0 0) h;
+  registration_value_at = λ fs i n k h. each_at (λ k. registration_value fs (i + 3 * k)) n k no_registration h;
+  values_packed = λ fs i n h. let g : ℕ → GenerationalHandle = λ k. handle_value fs (i + 2 * k) in λ j. record { items = each_held g 16 n (handle_of 0 0) h j; len = sym (length_each g n) j };
+  values_held = λ fs i n h. each_held (λ k. registration_value fs (i + 3 * k)) 64 n no_registration h;
+  hit_values_cut = λ fs i n h. each_cut (λ k. handle_value fs (i + 2 * k)) 16 n (handle_of 0 0) h;
+  registration_values_cut = λ fs i n h. each_cut (λ k. registration_value fs (i + 3 * k)) 64 n no_registration h;
+  hits_none = hits_out;
+  registrations_none = registrations_out;
+  arbitrate_none = λ fs n k c h e. no_arbitrate fs (hits_at_out fs n k c h e);
+  register_none = λ fs n k c h e. no_register fs (registrations_at_out fs n k c h e);
 }
 
 -- ---- a list's count is in its range

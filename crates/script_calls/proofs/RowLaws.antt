@@ -4,7 +4,7 @@ use mathlib.Core.List.{foldl, foldl-append}
 use Rattle.std.specs.Option.{option_map, option_and_then}
 use Rattle.std.specs.Prelude.{Option, None, Some}
 use Rattle.lists.specs.Tables.{pushed_within}
-use Rattle.script.specs.declared.line.Fields.{Fields}
+use Rattle.script.specs.Lines.{Fields}
 use Rattle.script_calls.specs.Groups.{number_at}
 use Rattle.script_calls.specs.Rows.{words, words_of, both_parts, row_words, read_behind, with_row}
 use Rattle.script_calls.specs.declared.rows.Asked.{Asked}

@@ -4,9 +4,8 @@ use Rattle.std.specs.Option.{option_map, option_and_then}
 use Rattle.calls.specs.declared.call.Lists.{Lists}
 use Rattle.call_forms.specs.Forms.{is_form}
 use Rattle.call_numbers.specs.Calls.{call_at}
-use Rattle.script.specs.Lines.{zero_number}
+use Rattle.script.specs.Lines.{zero_number, Fields}
 use Rattle.script.specs.Ranges.{unsigned_of, is_within}
-use Rattle.script.specs.declared.line.Fields.{Fields}
 use Rattle.script.specs.declared.verb.CloseVerb.{CloseVerb}
 use Rattle.script.specs.declared.verb.CloseVerb.TheVariants as close
 use Rattle.script.specs.declared.verb.InputVerb.{InputVerb}
@@ -24,7 +23,7 @@ use Rattle.script.specs.declared.verb.Verb.TheVariants as verb
 use Rattle.script_calls.specs.declared.rows.Asked.{Asked}
 use Rattle.script_calls.specs.declared.script_call.ScriptCall.{ScriptCall}
 use Rattle.script_calls.specs.declared.script_call.ScriptCall.TheVariants.{Session, Step}
-use Rattle.records.specs.declared.trace.Hits.{Hits}
+use Rattle.records.specs.Traces.{Hits}
 use Rattle.script.specs.declared.line.Line.{Line}
 use Rattle.script_calls.specs.Groups.{has, number_at}
 use Rattle.script_calls.specs.LineLists.{no_lists, with_hits, with_registrations}
@@ -109,7 +108,7 @@ arbitrate_call fs =
 unfoldable pub without_button : Fields → Fields
 without_button fs =
     cond (eqb (number_at fs 22).magnitude 0 && is_within 255 (number_at fs 23))
-    (record { numbers = set fs.numbers 23 zero_number; count = fs.count }) fs
+    (record { items = set fs.items 23 zero_number; len = fs.len }) fs
 
 -- a header, a payload's kind, and the payload by its kind; a pointer's button stands last
 unfoldable pub event_call : ℕ → Fields → Option ScriptCall

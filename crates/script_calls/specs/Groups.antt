@@ -5,18 +5,17 @@ use Rattle.composition_state.specs.declared.registry.CompositionLimits.{Composit
 use Rattle.lists.specs.Numbers.{max_u64}
 use Rattle.handles.specs.Handles.{handle_of}
 use Rattle.handles.specs.declared.GenerationalHandle.{GenerationalHandle}
-use Rattle.script.specs.Lines.{zero_number}
+use Rattle.script.specs.Lines.{zero_number, Fields}
 use Rattle.script.specs.Ranges.{unsigned_of, flag_of}
-use Rattle.script.specs.declared.line.Fields.{Fields}
 use Rattle.script.specs.declared.number.Number.{Number}
 
 -- the number at an index; past the line it is 0
 abbrev pub number_at : Fields → ℕ → Number
-number_at fs i = get_or fs.numbers i zero_number
+number_at fs i = get_or fs.items i zero_number
 
 -- the line has so many fields
 abbrev pub has : Fields → ℕ → Bool
-has fs n = eqb fs.count n
+has fs n = eqb fs.len n
 
 -- the number at an index as a flag, and as one of 32 or 64 bits
 abbrev pub flag_at : Fields → ℕ → Option Bool

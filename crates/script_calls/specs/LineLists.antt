@@ -4,9 +4,8 @@ use Rattle.std.specs.Prelude.{[]}
 use Rattle.lists.specs.Tables.{packed}
 use Rattle.calls.specs.declared.call.Lists.{Lists}
 use Rattle.composition_shortcuts.specs.Register.{registrations}
-use Rattle.composition_shortcuts.specs.declared.register.Registrations.{Registrations}
-use Rattle.records.specs.Traces.{hits}
-use Rattle.records.specs.declared.trace.Hits.{Hits}
+use Rattle.composition_shortcuts.specs.Registrations.{Registrations}
+use Rattle.records.specs.Traces.{hits, Hits}
 
 -- the hits behind a view and an event
 abbrev pub with_hits : Hits → Lists

@@ -2,22 +2,23 @@
 use Rattle.std.specs.Prelude.{ℕ, zero, suc, ◌+◌, ◌*◌, List, [], ◌∷◌, ◌++◌, pos, take, ℤ, Option, None, Some}
 use Rattle.std.specs.Option.{option_map, option_and_then}
 use Rattle.lists.specs.Lists.{pad}
+use Rattle.lists.specs.declared.table.Table.{Table}
 use Rattle.handles.specs.Handles.{handle_of}
 use Rattle.handles.specs.declared.GenerationalHandle.{GenerationalHandle}
 use Rattle.records.specs.declared.shortcut.ShortcutScope.TheVariants.{View}
 use Rattle.records.specs.declared.shortcut.SurfaceShortcutRegistration.{SurfaceShortcutRegistration}
-use Rattle.records.specs.declared.trace.Hits.{Hits}
+use Rattle.records.specs.Traces.{Hits}
 use Rattle.call_fields.specs.PanelChoices.{scope_of}
-use Rattle.composition_shortcuts.specs.declared.register.Registrations.{Registrations}
+use Rattle.composition_shortcuts.specs.Registrations.{Registrations}
 use Rattle.script.specs.Ranges.{unsigned_of, signed_of}
-use Rattle.script.specs.declared.line.Fields.{Fields}
+use Rattle.script.specs.Lines.{Fields}
 use Rattle.script_calls.specs.Groups.{number_at, u64_at, handle_at}
 
 -- the number at an index as a signed one of 16 bits
 abbrev pub i16_at : Fields → ℕ → Option ℤ
 i16_at fs i = signed_of 32767 (number_at fs i)
 
-abbrev registration_of : ℕ → ℕ → ℤ → SurfaceShortcutRegistration
+abbrev pub registration_of : ℕ → ℕ → ℤ → SurfaceShortcutRegistration
 registration_of mask scope priority = record { class_mask = mask; scope = scope_of scope; priority = priority }
 
 -- a registration: mask, scope, priority
@@ -44,6 +45,10 @@ with_entry (Some l) (Some e) = Some (l ++ (e ∷ []))
 unfoldable pub all_read : {E : Type 0} → (ℕ → Option E) → ℕ → Option (List E)
 all_read f zero = Some []
 all_read f (suc n) = with_entry (all_read f n) (f n)
+
+-- n entries in a table of so many places, if each of them is there: all are counted, and those that fit stand there
+abbrev pub listed : {E : Type 0} (size : ℕ) → E → (ℕ → Option E) → ℕ → Option (Table E size)
+listed size z f n = option_map (λ l. record { items = placed size z l; len = n }) (all_read f n)
 
 -- n handles from an index on, each of two fields
 abbrev pub handles_from : Fields → ℕ → ℕ → Option (List GenerationalHandle)

@@ -10,7 +10,7 @@ use Rattle.lists.specs.Numbers.{max_u64}
 use Rattle.lists.specs.Tables.{Shape, packed, pushed_within}
 use Rattle.script.specs.Ranges.{unsigned_of, signed_of}
 use Rattle.script.specs.Texts.{bytes}
-use Rattle.script.specs.declared.line.Fields.{Fields}
+use Rattle.script.specs.Lines.{Fields}
 use Rattle.script.specs.declared.number.Number.{Number}
 use Rattle.script_calls.specs.declared.rows.Asked.{Asked}
 use Rattle.script_calls.specs.declared.rows.Words.{Words}

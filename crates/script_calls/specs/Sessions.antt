@@ -4,7 +4,7 @@ use Rattle.std.specs.Prelude.{ℕ, cond, Option, None, Some}
 use Rattle.std.specs.Option.{option_map, option_and_then}
 use Rattle.composition_state.specs.declared.registry.CompositionLimits.{CompositionLimits}
 use Rattle.handles.specs.declared.GenerationalHandle.{GenerationalHandle}
-use Rattle.script.specs.declared.line.Fields.{Fields}
+use Rattle.script.specs.Lines.{Fields}
 use Rattle.script.specs.declared.verb.SessionVerb.{SessionVerb}
 use Rattle.script.specs.declared.verb.SessionVerb.TheVariants as verb
 use Rattle.script_calls.specs.Groups.{has, flag_at, u32_at, u64_at, handle_at, limits_at}

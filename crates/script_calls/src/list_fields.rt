@@ -3,14 +3,15 @@
 
 #![tactic(auto, unfolding(crate::specs::ListFields::registration_at, crate::specs::ListFields::hits_at, crate::specs::ListFields::registrations_at))]
 
-ghost use Rattle.std.specs.Prelude.{◌≡◌, ◌+◌, set};
+ghost use Rattle.std.specs.Prelude.{◌≡◌, ◌<◌, ℕ, Option};
 ghost use Rattle.script_calls.specs.ListClaims.{ListClaims};
-ghost use Rattle.script_calls.specs.ListFields.{registration_at, hits_from, hits_at, registrations_from, registrations_at};
+ghost use Rattle.script_calls.specs.ListFields.{registration_at, hits_at, listed, registrations_at};
 
 use crate::groups::{handle_field, read_field};
 use call_fields::numbered::Numbered;
 use composition_shortcuts::register::Registrations;
-use handles::GenerationalHandle;
+use lists::array::with_item;
+use lists::table::{Blank, Table};
 use records::shortcut::{ShortcutScope, SurfaceShortcutRegistration};
 use records::trace::Hits;
 use script::fields::{as_at_most, field};
@@ -28,28 +29,24 @@ pub fn registration_field(fields: Fields, i: u32) -> Option<SurfaceShortcutRegis
     })
 }
 
-// The table with a hit at place k. Past its end a hit is only counted.
-fn push_hit(hits: Hits, k: u16, hit: GenerationalHandle) -> Hits
-    ensures { result ≡ record { items = set hits.items k hit; len = k + 1 } }
+// The n entries that a closure reads, if it reads each of them. Past the table's end an entry is only counted.
+fn list_of<T: Blank, const N: usize, F: Fn(u16) -> Option<T>>(
+    n: u16,
+    read: F,
+) -> Option<Table<T, N>>
+    requires { F.IsAlwaysCallable read }
+    ensures { (entry : ℕ → Option T) → ((k : ℕ) (r : Option T) → k < n → F.post read k r → r ≡ entry k)
+        → result ≡ listed N T.BLANK entry n }
 {
-    let at = k as usize;
-    let mut next = hits;
-    next.len = at + 1;
-    if at < 16 {
-        next.items[at] = hit;
-    }
-    next
-}
-
-// The n handles from a position on.
-fn hits_from(fields: Fields, i: u16, n: u16) -> Option<Hits>
-    ensures { result ≡ hits_from fields i n }
-{
-    let mut hits = Hits::new();
+    let mut list = Table::new();
     for k in 0..n {
-        hits = push_hit(hits, k, handle_field(fields, i as u32 + 2 * (k as u32))?);
+        let entry = read(k)?;
+        list = Table {
+            items: with_item(list.items, k as usize, entry),
+            len: k as usize + 1,
+        };
     }
-    Some(hits)
+    Some(list)
 }
 
 // A count from 0 to 20, then as many handles.
@@ -57,47 +54,11 @@ pub fn hits_field(fields: Fields, i: u8) -> Option<Hits>
     ensures { result ≡ hits_at fields i }
 {
     let count = as_at_most(field(fields, i as usize), 20)?;
-    hits_from(fields, i as u16 + 1, count as u16)
-}
-
-// The table with a registration at place k. Past its end a registration is only counted.
-fn push_registration(
-    list: Registrations,
-    k: u16,
-    registration: SurfaceShortcutRegistration,
-) -> Registrations
-    ensures { result ≡ record { items = set list.items k registration; len = k + 1 } }
-{
-    let at = k as usize;
-    let mut next = list;
-    next.len = at + 1;
-    if at < 64 {
-        next.items[at] = registration;
-    }
-    next
-}
-
-// The n registrations from a position on.
-fn registrations_from(fields: Fields, i: u16, n: u16) -> Option<Registrations>
-    ensures { result ≡ registrations_from fields i n }
-{
-    let none = SurfaceShortcutRegistration {
-        class_mask: 0,
-        scope: ShortcutScope::View,
-        priority: 0,
-    };
-    let mut list = Registrations {
-        items: [none; 64],
-        len: 0,
-    };
-    for k in 0..n {
-        list = push_registration(
-            list,
-            k,
-            registration_field(fields, i as u32 + 3 * (k as u32))?,
-        );
-    }
-    Some(list)
+    let first = i as u16 + 1;
+    list_of(
+        count as u16,
+        |k: u16| handle_field(fields, first as u32 + 2 * (k as u32)),
+    )
 }
 
 // A count from 0 to 70, then as many registrations.
@@ -105,7 +66,11 @@ pub fn registrations_field(fields: Fields, i: u8) -> Option<Registrations>
     ensures { result ≡ registrations_at fields i }
 {
     let count = as_at_most(field(fields, i as usize), 70)?;
-    registrations_from(fields, i as u16 + 1, count as u16)
+    let first = i as u16 + 1;
+    list_of(
+        count as u16,
+        |k: u16| registration_field(fields, first as u32 + 3 * (k as u32)),
+    )
 }
 
 // The claims about the two lists, as a theorem that the check names.

@@ -13,68 +13,11 @@ use crate::sessions::asked_session;
 use call_forms::call::is_form;
 use call_numbers::call::call_at;
 use calls::call::Lists;
+use lists::table::Blank;
 use script::fields::{FieldType, as_at_most, field};
 use script::line::{Fields, Line};
 use script::number::Number;
-use script::verb::{CloseVerb, InputVerb, PanelVerb, ReadVerb, RouterVerb, StepVerb, Verb};
-
-// The calls' numbers, of which the verbs of a script know nothing.
-fn panel_number(verb: PanelVerb) -> u8
-    ensures { result ≡ panel_number verb }
-{
-    match verb {
-        PanelVerb::CreateWindow => 0,
-        PanelVerb::CloseWindow => 1,
-        PanelVerb::CreateView => 2,
-        PanelVerb::UpdateViewMetrics => 3,
-        PanelVerb::CloseView => 4,
-        PanelVerb::AttachSurface => 5,
-        PanelVerb::UpdateSurfaceGeometry => 6,
-        PanelVerb::UpdateSurfaceInputPolicy => 7,
-    }
-}
-
-fn input_number(verb: InputVerb) -> u8
-    ensures { result ≡ input_number verb }
-{
-    match verb {
-        InputVerb::SetFocus => 8,
-        InputVerb::CapturePointer => 9,
-        InputVerb::CapturePointerFor => 10,
-        InputVerb::ReleasePointer => 11,
-        InputVerb::ReleasePointerFor => 12,
-        InputVerb::BeginIme => 13,
-        InputVerb::EndIme => 14,
-        InputVerb::SuspendViewInput => 15,
-    }
-}
-
-fn close_number(verb: CloseVerb) -> u8
-    ensures { result ≡ close_number verb }
-{
-    match verb {
-        CloseVerb::CloseSurface => 21,
-        CloseVerb::Shutdown => 22,
-    }
-}
-
-fn read_number(verb: ReadVerb) -> u8
-    ensures { result ≡ read_number verb }
-{
-    match verb {
-        ReadVerb::ViewWindow => 26,
-        ReadVerb::ViewMetrics => 27,
-        ReadVerb::ViewInputState => 28,
-        ReadVerb::ViewPointerCaptures => 29,
-        ReadVerb::SurfaceDescriptor => 30,
-        ReadVerb::ViewLayers => 31,
-        ReadVerb::Traces => 32,
-        ReadVerb::Counts => 33,
-        ReadVerb::ActiveBindingCount => 34,
-        ReadVerb::HitTestStack => 35,
-        ReadVerb::InversePoint => 36,
-    }
-}
+use script::verb::{RouterVerb, StepVerb, Verb};
 
 // The call of the numbers, if they are what it is written as.
 fn step_of(asked: Asked, lists: Lists) -> Option<ScriptCall>
@@ -88,7 +31,7 @@ fn row_call(number: u8, fields: Fields) -> Option<ScriptCall>
     ensures { result ≡ row_call number fields }
 {
     let asked = asked_row(number, fields)?;
-    if fields.count != asked.end {
+    if fields.len != asked.end {
         return None;
     }
     step_of(asked, no_lists())
@@ -99,7 +42,7 @@ fn register_call(fields: Fields) -> Option<ScriptCall>
     ensures { result ≡ register_call fields }
 {
     let list = registrations_field(fields, 3)?;
-    if fields.count != 4 + 3 * list.len {
+    if fields.len != 4 + 3 * list.len {
         return None;
     }
     step_of(asked_row(17, fields)?, with_registrations(list))
@@ -129,7 +72,7 @@ fn arbitrate_call(fields: Fields) -> Option<ScriptCall>
     let kind = as_at_most(field(fields, 2), 10)? as u8;
     let hits = hits_field(fields, 10)?;
     let listed = has_hits(kind) || hits.len == 0;
-    if fields.count != 11 + 2 * hits.len || !is_row_in_range(58, fields) || !listed {
+    if fields.len != 11 + 2 * hits.len || !is_row_in_range(58, fields) || !listed {
         return None;
     }
     step_of(
@@ -144,10 +87,7 @@ fn without_button(fields: Fields) -> Fields
 {
     let mut next = fields;
     if field(fields, 22).magnitude == 0 && u8::from_field(field(fields, 23)).is_some() {
-        next.numbers[23] = Number {
-            negative: false,
-            magnitude: 0,
-        };
+        next.items[23] = Number::BLANK;
     }
     next
 }
@@ -157,7 +97,7 @@ fn event_call(kind: u8, fields: Fields) -> Option<ScriptCall>
     ensures { result ≡ event_call kind fields }
 {
     let asked = asked_rows(23, 37 + kind, 12, fields)?;
-    if fields.count != asked.end {
+    if fields.len != asked.end {
         return None;
     }
     step_of(asked, no_lists())
@@ -187,14 +127,14 @@ fn step_call(verb: StepVerb, fields: Fields) -> Option<ScriptCall>
     ensures { result ≡ step_call verb fields }
 {
     match verb {
-        StepVerb::Panel(panel) => row_call(panel_number(panel), fields),
-        StepVerb::Input(input) => row_call(input_number(input), fields),
+        StepVerb::Panel(panel) => row_call(panel as u8, fields),
+        StepVerb::Input(input) => row_call(input as u8, fields),
         StepVerb::ReleaseDevicePointerCaptures => row_call(16, fields),
         StepVerb::RegisterSurfaceSystemShortcutSet => register_call(fields),
         StepVerb::Arbitrate => arbitrate_call(fields),
-        StepVerb::Close(close) => row_call(close_number(close), fields),
+        StepVerb::Close(close) => row_call(close as u8, fields),
         StepVerb::Router(router) => router_call(router, fields),
-        StepVerb::Read(read) => row_call(read_number(read), fields),
+        StepVerb::Read(read) => row_call(read as u8, fields),
     }
 }
 

@@ -13,7 +13,8 @@ use script::fields::{FieldType, as_at_most, field};
 use script::line::Fields;
 use script::number::Number;
 
-// The first 32 numbers of a call, filled from the front, in fixed memory, as there is no heap.
+// The first 32 numbers of a call, filled from the front, in fixed memory, as there is no heap. No `Table`: its entries
+// are of a type with a blank value, and a number has none.
 #[derive(Clone, Copy)]
 pub struct Words {
     pub items: [u64; 32],

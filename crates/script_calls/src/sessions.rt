@@ -13,7 +13,7 @@ use script::verb::SessionVerb;
 fn digest(fields: Fields) -> Option<SessionCall>
     ensures { result ≡ digest_in fields }
 {
-    if fields.count != 1 {
+    if fields.len != 1 {
         return None;
     }
     Some(SessionCall::Digest(read_field(fields, 0)?))
@@ -35,7 +35,7 @@ fn start_field(fields: Fields, first_revision: u64, first_generation: u32) -> Op
 fn new_call(fields: Fields) -> Option<SessionCall>
     ensures { result ≡ new_in fields }
 {
-    if fields.count != 8 {
+    if fields.len != 8 {
         return None;
     }
     Some(SessionCall::New(start_field(fields, 0, 1)?))
@@ -44,7 +44,7 @@ fn new_call(fields: Fields) -> Option<SessionCall>
 fn new_at_call(fields: Fields) -> Option<SessionCall>
     ensures { result ≡ new_at_in fields }
 {
-    if fields.count != 10 {
+    if fields.len != 10 {
         return None;
     }
     let revision = read_field(fields, 8)?;
@@ -55,7 +55,7 @@ fn new_at_call(fields: Fields) -> Option<SessionCall>
 fn router(fields: Fields) -> Option<SessionCall>
     ensures { result ≡ router_in fields }
 {
-    if fields.count != 1 {
+    if fields.len != 1 {
         return None;
     }
     Some(SessionCall::Router(read_field(fields, 0)?))
@@ -65,7 +65,7 @@ fn router(fields: Fields) -> Option<SessionCall>
 fn dump(call: SessionCall, fields: Fields) -> Option<SessionCall>
     ensures { result ≡ dump_in call fields }
 {
-    (fields.count == 0).then_some(call)
+    (fields.len == 0).then_some(call)
 }
 
 // The call of a line with the call's number of fields, each in its range.

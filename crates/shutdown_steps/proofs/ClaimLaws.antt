@@ -1,4 +1,5 @@
 -- The claims: the tests before a shutdown make it ready, the folds over views and windows keep that, and their lists are those of the report.
+use Rattle.std.specs.Prelude.{Ok, Err}
 use Prim.Native.Nat.{◌+◌, ◌≤◌}
 use mathlib.Core.Path.{◌≡◌, refl, sym, ap, ◌∙◌}
 use mathlib.Core.Bool.{not, ◌&&◌}
@@ -14,9 +15,7 @@ use Rattle.handles.specs.declared.GenerationalHandle.{GenerationalHandle}
 use Rattle.handles.proofs.ListedLaws.{places}
 use Rattle.handles.proofs.SoundLaws.{sound}
 use Rattle.records.specs.declared.error.CompositionError.TheVariants.{Damaged, RevisionExhausted, GenerationExhausted}
-use Rattle.records.specs.declared.error.Outcome.{Outcome}
-use Rattle.records.specs.declared.error.Outcome.TheVariants.{Accepted, Refused}
-use Rattle.records.specs.Errors.{refusal_if}
+use Rattle.records.specs.Errors.{refusal_if, Outcome}
 use Rattle.composition_state.specs.declared.registry.CompositionRegistry.{CompositionRegistry}
 use Rattle.composition_state.specs.Damage.{is_sound, damage_refusal}
 use Rattle.composition_state.proofs.SettleLaws.{then_last, if_accepted}
@@ -33,7 +32,7 @@ use Rattle.shutdown_steps.proofs.PanelLaws.{Going}
 use Rattle.shutdown_steps.proofs.ViewLaws.{Passed, views_passed, views_gone}
 use Rattle.shutdown_steps.proofs.WindowLaws.{Shut, windows_shut}
 
-module _ (r : CompositionRegistry) (u : Undamaged r) (a : shutdown_refusal r ≡ Accepted) where
+module _ (r : CompositionRegistry) (u : Undamaged r) (a : shutdown_refusal r ≡ Ok tt) where
   start : Going (begun r)
   start =
       let p = parts r u in
@@ -62,7 +61,7 @@ module _ (r : CompositionRegistry) (u : Undamaged r) (a : shutdown_refusal r ≡
   unfolding shutdown_steps
   windows = windows_shut (views_done r) views.going (views_gone r start)
 
-  pub no_refusal : (shutdown_steps r).outcome ≡ Accepted
+  pub no_refusal : (shutdown_steps r).outcome ≡ Ok tt
   no_refusal = windows.going.accepted
 
   listed_all : (a : Arena) → a.used ≤ 64 → (l : List GenerationalHandle) → l ≡ handles_below a.slots a.used → l ≡ live_handles a
@@ -84,16 +83,15 @@ module _ (r : CompositionRegistry) (u : Undamaged r) (a : shutdown_refusal r ≡
   reports_same : packed close_reports (shutdown_steps r).reports ≡ (views_closed r).reports
   reports_same = ap (packed close_reports) windows.reports ∙ ap (λ (c : Closing). c.reports) views.same
 
-  ended_same : ended Accepted (shutdown_steps r) ≡ shut_down r
+  ended_same : ended (Ok tt) (shutdown_steps r) ≡ shut_down r
   unfolding shut_down
   ended_same = λ i. record {
-    outcome = Accepted;
-    report = record {
+    outcome = Ok (record {
       closed_surfaces = reports_same i;
       closed_views = packed handles_table (all_views i);
       closed_windows = packed handles_table (all_windows i);
       final_revision = (registry_same i).revision;
-    };
+    });
     registry = registry_same i;
   }
 
@@ -101,9 +99,9 @@ module _ (r : CompositionRegistry) (u : Undamaged r) (a : shutdown_refusal r ≡
   accepted_same = sym (ap (λ (o : Outcome). ended o (shutdown_steps r)) no_refusal ∙ ended_same)
 
 -- ---- whatever the tests before it answer
-after_same : (r : CompositionRegistry) (o : Outcome) → (o ≡ Accepted → shut_down r ≡ ended (shutdown_steps r).outcome (shutdown_steps r)) → shutdown_after o r ≡ steps_after o r
-after_same r Accepted f = f refl
-after_same r (Refused e) f = refl
+after_same : (r : CompositionRegistry) (o : Outcome) → (o ≡ Ok tt → shut_down r ≡ ended (shutdown_steps r).outcome (shutdown_steps r)) → shutdown_after o r ≡ steps_after o r
+after_same r (Ok _) f = f refl
+after_same r (Err e) f = refl
 
 pub by_steps : (r : CompositionRegistry) → Whole r → shutdown_of r ≡ shutdown_by_steps r
 unfolding shutdown_of shutdown_by_steps

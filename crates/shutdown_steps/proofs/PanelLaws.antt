@@ -1,4 +1,6 @@
 -- A view's panels go one by one: the list that is left is always the view's layers, so each is live and of the view at its turn. By induction on the list.
+use Rattle.std.specs.Prelude.{Ok}
+use Rattle.records.specs.Errors.{Outcome}
 use Prim.Native.Nat.{◌+◌, ◌≤◌}
 use mathlib.Core.Path.{◌≡◌, refl, sym, ap, ◌∙◌, subst}
 use mathlib.Core.Bool.{Bool, true, not}
@@ -18,19 +20,16 @@ use Rattle.handles.specs.declared.arena.Arena.{Arena}
 use Rattle.handles.specs.declared.arena.SlotStatus.TheVariants.{Live}
 use Rattle.handles.specs.declared.GenerationalHandle.{GenerationalHandle}
 use Rattle.handles.proofs.HandleLaws.{handles}
-use Rattle.records.specs.declared.error.Outcome.{Outcome}
-use Rattle.records.specs.declared.error.Outcome.TheVariants.{Accepted}
 use Rattle.records.specs.Layers.{layers, itself, layer_lt, is_layer_of}
 use Rattle.records.specs.Views.{view_at}
 use Rattle.records.proofs.LayerLaws as layer
 use Rattle.composition_state.specs.declared.registry.CompositionRegistry.{CompositionRegistry}
-use Rattle.composition_close.specs.declared.answer.CloseReports.{CloseReports}
-use Rattle.composition_close.specs.declared.answer.SurfaceClosed.{SurfaceClosed}
+use Rattle.composition_close.specs.Reports.{CloseReports, close_reports}
+use Rattle.composition_close.specs.Close.{SurfaceClosed}
 use Rattle.composition_close.specs.declared.answer.SurfaceCloseReport.{SurfaceCloseReport}
 use Rattle.composition_close.specs.declared.shutdown.Closing.{Closing}
 use Rattle.composition_close.specs.Close.{close_surface}
 use Rattle.composition_close.specs.Detach.{close_report}
-use Rattle.composition_close.specs.Reports.{close_reports}
 use Rattle.composition_close.specs.Shutdown.{layer_closed, layers_closed}
 use Rattle.composition_soundness.proofs.ChangeLaws.{view_of_lem}
 use Rattle.shutdown_steps.specs.Steps.{Way, unless_refused, panel_taken, panel_step, panel_steps}
@@ -53,7 +52,7 @@ abbrev pub closing : Way → Closing
 closing w = record { registry = w.registry; reports = packed close_reports w.reports }
 
 pub record Going (w : Way) : Type 0 where
-  pub accepted : w.outcome ≡ Accepted
+  pub accepted : w.outcome ≡ Ok tt
   pub ready : Ready w.registry
   -- the reports and the panels that are left
   pub few : length w.reports + w.registry.surfaces.arena.live ≤ 64
@@ -65,7 +64,7 @@ module _ (w : Way) (g : Going w) (view h : GenerationalHandle) (stands : lookup_
 
   abbrev next : Way
   next = record {
-    outcome = Accepted;
+    outcome = Ok tt;
     registry = panel_next h w.registry;
     reports = w.reports ++ (report ∷ []);
     views = w.views;

@@ -1,4 +1,6 @@
 -- Each step is accepted: the test passes, no live slot is at its last generation, and the revision has room for all that is live; and an accepted step keeps that.
+use Rattle.std.specs.Prelude.{Ok}
+use Rattle.records.specs.Errors.{Outcome}
 use Prim.Native.Nat.{ℕ, ◌+◌, ◌≤◌, ◌<◌}
 use mathlib.Core.Path.{◌≡◌, refl, ap, ◌∙◌, subst}
 use mathlib.Core.Bool.{true, false, not}
@@ -16,17 +18,15 @@ use Rattle.handles.specs.declared.arena.Arena.{Arena}
 use Rattle.handles.specs.declared.arena.SlotStatus.TheVariants.{Live}
 use Rattle.handles.specs.declared.GenerationalHandle.{GenerationalHandle}
 use Rattle.handles.proofs.LookupLaws.{live_facts}
-use Rattle.records.specs.declared.error.Outcome.{Outcome}
-use Rattle.records.specs.declared.error.Outcome.TheVariants.{Accepted}
 use Rattle.records.specs.declared.view.ViewRecord.{ViewRecord}
 use Rattle.records.specs.Layers.{layers, layers_without, is_layer_of}
 use Rattle.records.specs.Views.{no_view, view_at, views_with, view_slots}
-use Rattle.composition_state.specs.declared.registry.Changed.{Changed}
+use Rattle.composition_state.specs.Registry.{Changed, answered_with}
 use Rattle.composition_state.specs.declared.registry.CompositionRegistry.{CompositionRegistry}
 use Rattle.composition_state.specs.Damage.{damage_refusal, view_handle}
 use Rattle.composition_state.specs.Registry.{with_revision, with_windows, with_views, answered, advanced, settled}
 use Rattle.composition_panels.specs.Windows.{exhausted_refusal, stands_in, is_window_in_use, close_view_refusal, close_view, close_window_refusal, close_window}
-use Rattle.composition_close.specs.Close.{close_refusal, detached, freed, closed_panel, slot_refusal, close_settled, closed_with, close_after, close_surface}
+use Rattle.composition_close.specs.Close.{close_refusal, detached, freed, closed_panel, slot_refusal, close_settled, close_after, close_surface}
 use Rattle.composition_close.specs.Detach.{own_view, detached_view, close_report}
 use Rattle.composition_close.specs.Shutdown.{raised, view_closed, window_closed}
 use Rattle.composition_soundness.proofs.LayerLaws.{layer_live, layer_view}
@@ -57,20 +57,20 @@ view_next view c = raised_to (with_views (views_with (released c.views.arena vie
 abbrev pub window_next : GenerationalHandle → CompositionRegistry → CompositionRegistry
 window_next window c = raised_to (with_windows (released c.windows window).arena c)
 
-advanced_on : (c : CompositionRegistry) → c.revision < max_u64 → advanced c ≡ answered Accepted (raised_to c)
+advanced_on : (c : CompositionRegistry) → c.revision < max_u64 → advanced c ≡ answered (Ok tt) (raised_to c)
 unfolding advanced
 advanced_on c l = rw (ne_eqb c.revision max_u64 (below l))
   where
     below : {n : ℕ} → n < max_u64 → n ≡ max_u64 → ⊥
     below {n} l e = omega arith
 
-settled_on : (o : Outcome) (r c : CompositionRegistry) → o ≡ Accepted → c.revision < max_u64 → settled o r c ≡ answered Accepted (raised_to c)
+settled_on : (o : Outcome) (r c : CompositionRegistry) → o ≡ Ok tt → c.revision < max_u64 → settled o r c ≡ answered (Ok tt) (raised_to c)
 settled_on o r c e l = ap (λ (x : Outcome). settled x r c) e ∙ advanced_on c l
 
 raised_parts : (c : CompositionRegistry) → c.revision < max_u64 → Parts c → Parts (raised_to c)
 raised_parts c l p = subst (λ (x : Changed). Parts x.registry) (advanced_on c l) (revised c p)
 
-not_damaged : (c : CompositionRegistry) → Parts c → damage_refusal c ≡ Accepted
+not_damaged : (c : CompositionRegistry) → Parts c → damage_refusal c ≡ Ok tt
 not_damaged c p = rw (undamaged c p).sound
 
 -- ---- a panel
@@ -87,18 +87,18 @@ module _ (c : CompositionRegistry) (y : Ready c) (view h : GenerationalHandle) (
   panel_room : c.revision < max_u64
   panel_room = omega (arith, y.room, panel_release.live)
 
-  panel_checks : close_refusal c h ≡ Accepted
+  panel_checks : close_refusal c h ≡ Ok tt
   panel_checks = rw ((undamaged c y.parts).sound, live, own, stands)
 
-  panel_settled : close_settled c h ≡ answered Accepted (panel_next h c)
+  panel_settled : close_settled c h ≡ answered (Ok tt) (panel_next h c)
   unfolding close_settled freed detached
   panel_settled = settled_on (slot_refusal c h) (detached h c) (closed_panel h c) (ap exhausted_refusal panel_release.outcome) panel_room
 
-  pub panel_closes : close_surface c h ≡ record { outcome = Accepted; report = close_report c.surfaces c.views h (panel_next h c).revision; registry = (panel_next h c) }
+  pub panel_closes : close_surface c h ≡ record { outcome = Ok (close_report c.surfaces c.views h (panel_next h c).revision); registry = (panel_next h c) }
   unfolding close_surface
   panel_closes =
       ap (λ (o : Outcome). close_after o c h) panel_checks
-      ∙ ap (λ (x : Changed). closed_with (close_report c.surfaces c.views h x.registry.revision) x) panel_settled
+      ∙ ap (λ (x : Changed). answered_with (close_report c.surfaces c.views h x.registry.revision) x) panel_settled
 
   pub panel_raised : raised (closed_panel h c) ≡ panel_next h c
   unfolding freed detached
@@ -150,7 +150,7 @@ module _ (c : CompositionRegistry) (y : Ready c) (view : GenerationalHandle) (st
   view_room : c.revision < max_u64
   view_room = omega (arith, y.room, view_release.live)
 
-  pub view_closes : entries_of layers (view_at c.views view).surfaces ≡ [] → close_view c view ≡ answered Accepted (view_next view c)
+  pub view_closes : entries_of layers (view_at c.views view).surfaces ≡ [] → close_view c view ≡ answered (Ok tt) (view_next view c)
   unfolding close_view
   view_closes empty = settled_on (close_view_refusal c view) c _ (rw ((undamaged c y.parts).sound, stands, empty, view_release.outcome)) view_room
 
@@ -185,7 +185,7 @@ module _ (c : CompositionRegistry) (y : Ready c) (none : (g : GenerationalHandle
   unfolding is_window_in_use
   not_used = ap not (all_of (λ i. not (stands_in c.views window i)) (view_slots c.views) none_in)
 
-  pub window_closes : close_window c window ≡ answered Accepted (window_next window c)
+  pub window_closes : close_window c window ≡ answered (Ok tt) (window_next window c)
   unfolding close_window
   window_closes = settled_on (close_window_refusal c window) c _ (rw ((undamaged c y.parts).sound, stands, not_used, window_release.outcome)) window_room
 

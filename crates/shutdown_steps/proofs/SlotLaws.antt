@@ -9,7 +9,6 @@ use Rattle.lists.proofs.ListLaws.{clash, and_both}
 use Rattle.handles.specs.Claims.{Proper}
 use Rattle.handles.specs.Slots.{slot_of, slot_at, lookup_of, released, used_places, is_exhausted, none_exhausted}
 use Rattle.handles.specs.declared.arena.Arena.{Arena}
-use Rattle.handles.specs.declared.arena.ReleaseOutcome.TheVariants.{Released}
 use Rattle.handles.specs.declared.arena.SlotStatus.TheVariants.{Live}
 use Rattle.handles.specs.declared.GenerationalHandle.{GenerationalHandle}
 use Rattle.handles.proofs.ClaimLaws as arena
@@ -20,6 +19,7 @@ use Rattle.handles.proofs.SlotLaws.{slot_other}
 use Rattle.handles.proofs.SoundLaws.{sound}
 use Rattle.records.specs.Layers.{is_live}
 use Rattle.composition_soundness.proofs.LiveLaws.{was_live}
+use Rattle.std.specs.Prelude.{Ok}
 
 -- no live slot is at its last generation
 abbrev pub Fresh : Arena → Type 0
@@ -34,7 +34,7 @@ fresh_when a limit p t g e z =
     clash (and_both f.filled (eq-eqb _ _ (f.same ∙ z))) (not-true (is_exhausted (slot_at a g.index)) fresh)
 
 pub record Released-at (a : Arena) (h : GenerationalHandle) : Type 0 where
-  pub outcome : (released a h).outcome ≡ Released
+  pub outcome : (released a h).outcome ≡ Ok tt
   pub live : (released a h).arena.live + 1 ≡ a.live
   pub used : (released a h).arena.used ≡ a.used
   pub others : (j : ℕ) → (j ≡ h.index → ⊥) → slot_at (released a h).arena j ≡ slot_at a j
@@ -42,7 +42,7 @@ pub record Released-at (a : Arena) (h : GenerationalHandle) : Type 0 where
   pub fresh : Fresh (released a h).arena
 
 module _ (a : Arena) (limit : ℕ) (p : Proper a limit) (fresh : Fresh a) (h : GenerationalHandle) (e : lookup_of a h ≡ Live) where
-  done : (released a h).outcome ≡ Released
+  done : (released a h).outcome ≡ Ok tt
   done = (arena.claims).live_released a limit h p e (fresh h e)
 
   taken : Accepted a h

@@ -1,4 +1,5 @@
 -- Every live view in slot order: a slot that was not reached is as it was, so its view is live at its turn, and after the last slot none is. By induction on the slots.
+use Rattle.std.specs.Prelude.{Ok}
 use Prim.Native.Nat.{ℕ, zero, suc, ◌≤◌, ◌<◌}
 use mathlib.Core.Path.{◌≡◌, refl, sym, ap, ◌∙◌, subst}
 use mathlib.Core.Bool.{true, false}
@@ -18,12 +19,10 @@ use Rattle.handles.proofs.ListedLaws.{places}
 use Rattle.handles.proofs.LookupLaws.{live_facts}
 use Rattle.handles.proofs.SoundLaws.{sound}
 use Rattle.records.specs.declared.error.CompositionError.TheVariants.{InvalidView, StaleView}
-use Rattle.records.specs.declared.error.Outcome.{Outcome}
-use Rattle.records.specs.declared.error.Outcome.TheVariants.{Accepted}
-use Rattle.records.specs.Errors.{status_refusal}
+use Rattle.records.specs.Errors.{status_refusal, Outcome}
 use Rattle.records.specs.Layers.{layers}
 use Rattle.records.specs.Views.{view_at, view_refusal}
-use Rattle.composition_state.specs.declared.registry.Changed.{Changed}
+use Rattle.composition_state.specs.Registry.{Changed}
 use Rattle.composition_state.specs.declared.registry.CompositionRegistry.{CompositionRegistry}
 use Rattle.composition_panels.specs.Windows.{close_view}
 use Rattle.composition_close.specs.declared.shutdown.Closing.{Closing}
@@ -37,7 +36,7 @@ use Rattle.shutdown_steps.proofs.PanelLaws.{closing, Going, Done, panels_done}
 
 -- ---- one view with its panels
 abbrev again : Way → Way
-again w = record { outcome = Accepted; registry = w.registry; reports = w.reports; views = w.views; windows = w.windows }
+again w = record { outcome = Ok tt; registry = w.registry; reports = w.reports; views = w.views; windows = w.windows }
 
 pub record ViewDone (view : GenerationalHandle) (w v : Way) (c : Closing) : Type 0 where
   pub going : Going v
@@ -66,7 +65,7 @@ module _ (w : Way) (g : Going w) (view : GenerationalHandle) (stands : lookup_of
 
   abbrev left : Way
   left = record {
-    outcome = Accepted;
+    outcome = Ok tt;
     registry = view_next view emptied.registry;
     reports = emptied.reports;
     views = emptied.views ++ (view ∷ []);

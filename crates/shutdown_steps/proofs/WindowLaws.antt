@@ -1,4 +1,6 @@
 -- Every live window in slot order, once no view is live: as for the views, by induction on the slots.
+use Rattle.std.specs.Prelude.{Ok}
+use Rattle.records.specs.Errors.{Outcome}
 use Prim.Native.Nat.{ℕ, zero, suc, ◌≤◌, ◌<◌}
 use mathlib.Core.Path.{◌≡◌, refl, sym, ap, ◌∙◌, subst}
 use mathlib.Core.Bool.{true, false}
@@ -14,9 +16,7 @@ use Rattle.handles.specs.declared.arena.SlotStatus.TheVariants.{Live}
 use Rattle.handles.specs.declared.GenerationalHandle.{GenerationalHandle}
 use Rattle.handles.proofs.ListedLaws.{places}
 use Rattle.handles.proofs.SoundLaws.{sound}
-use Rattle.records.specs.declared.error.Outcome.{Outcome}
-use Rattle.records.specs.declared.error.Outcome.TheVariants.{Accepted}
-use Rattle.composition_state.specs.declared.registry.Changed.{Changed}
+use Rattle.composition_state.specs.Registry.{Changed}
 use Rattle.composition_state.specs.declared.registry.CompositionRegistry.{CompositionRegistry}
 use Rattle.composition_panels.specs.Windows.{close_window}
 use Rattle.composition_close.specs.Shutdown.{window_closed, window_closed_at, windows_closed}
@@ -36,7 +36,7 @@ module _ (w : Way) (g : Going w) (none : (h : GenerationalHandle) → lookup_of 
     (window : GenerationalHandle) (stands : lookup_of w.registry.windows window ≡ Live) where
   abbrev left : Way
   left = record {
-    outcome = Accepted;
+    outcome = Ok tt;
     registry = window_next window w.registry;
     reports = w.reports;
     views = w.views;

@@ -1,8 +1,7 @@
 -- A registry that calls from a start lead to, whose shutdown's steps can be seen: one window, one view, two panels.
-use Rattle.std.specs.Prelude.{◌≡◌, false, [], ◌∷◌, map, pos}
+use Rattle.std.specs.Prelude.{◌≡◌, false, [], ◌∷◌, map, pos, Ok}
 use Rattle.geometry.specs.Surface.{default_geometry}
 use Rattle.handles.specs.Handles.{handle_of}
-use Rattle.records.specs.declared.error.Outcome.TheVariants.{Accepted}
 use Rattle.records.specs.declared.surface.SurfaceDescriptor.{SurfaceDescriptor}
 use Rattle.records.specs.declared.surface.SurfaceInputPolicy.TheVariants.{Interactive}
 use Rattle.records.specs.declared.surface.SurfaceKind.TheVariants.{Ui}
@@ -44,8 +43,8 @@ paired = (attach_surface (attach_surface opened panel).registry panel).registry
 -- the premises of `ShutdownClaims` hold of it; the panels go from the top, and each of four steps raises the revision
 pub record ShutdownExample : Type 0 where
   pub undamaged : Undamaged paired
-  pub passes : shutdown_refusal paired ≡ Accepted
-  pub accepted : (shutdown_steps paired).outcome ≡ Accepted
+  pub passes : shutdown_refusal paired ≡ Ok tt
+  pub accepted : (shutdown_steps paired).outcome ≡ Ok tt
   pub panels : map (λ x. x.surface) (shutdown_steps paired).reports ≡ handle_of 1 1 ∷ handle_of 0 1 ∷ []
   pub revisions : map (λ x. x.revision) (shutdown_steps paired).reports ≡ 10 ∷ 11 ∷ []
   pub views : (shutdown_steps paired).views ≡ handle_of 0 1 ∷ []

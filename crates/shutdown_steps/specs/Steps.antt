@@ -1,22 +1,19 @@
 -- RULES.md, Shutdown, as the Rust does it: after 42, 21 and 22 a fold of the public calls `close_surface`,
 -- `close_view` and `close_window` that ends at the first refusal.
-use Rattle.std.specs.Prelude.{cond, List, [], ◌∷◌, ◌++◌, reverse}
+use Rattle.records.specs.Errors.{Outcome}
+use Rattle.std.specs.Prelude.{cond, List, [], ◌∷◌, ◌++◌, reverse, is_ok, Ok, Err}
 use Rattle.lists.specs.Tables.{entries_of, packed}
 use Rattle.handles.specs.Slots.{handles_table, live_handles}
 use Rattle.handles.specs.declared.GenerationalHandle.{GenerationalHandle}
-use Rattle.records.specs.declared.error.Outcome.{Outcome}
-use Rattle.records.specs.declared.error.Outcome.TheVariants.{Accepted, Refused}
-use Rattle.records.specs.Errors.{is_accepted}
 use Rattle.records.specs.Layers.{layers}
 use Rattle.records.specs.Views.{view_at, view_refusal}
-use Rattle.composition_state.specs.declared.registry.Changed.{Changed}
+use Rattle.composition_state.specs.Registry.{Changed, outcome_of}
 use Rattle.composition_state.specs.declared.registry.CompositionRegistry.{CompositionRegistry}
 use Rattle.composition_panels.specs.Windows.{close_view, close_window}
-use Rattle.composition_close.specs.declared.answer.Shutdown.{Shutdown}
+use Rattle.composition_close.specs.Shutdown.{Shutdown}
 use Rattle.composition_close.specs.declared.answer.SurfaceCloseReport.{SurfaceCloseReport}
-use Rattle.composition_close.specs.declared.answer.SurfaceClosed.{SurfaceClosed}
-use Rattle.composition_close.specs.Reports.{close_reports, no_shutdown}
-use Rattle.composition_close.specs.Close.{close_surface}
+use Rattle.composition_close.specs.Reports.{close_reports}
+use Rattle.composition_close.specs.Close.{SurfaceClosed, closed_report, close_surface}
 use Rattle.composition_close.specs.Shutdown.{shutdown_refusal}
 
 -- a shutdown under way: the answer of its last step, the registry, and what was closed, in the order of the closes
@@ -29,19 +26,19 @@ pub record Way : Type 0 where
 
 -- the Rust's `?`: after a refusal nothing more is done
 abbrev pub unless_refused : Outcome → Way → Way → Way
-unless_refused Accepted w next = next
-unless_refused (Refused e) w next = w
+unless_refused (Ok _) w next = next
+unless_refused (Err e) w next = w
 
 -- an accepted step puts what it closed at the end of its list; a refused one puts nothing
 abbrev pub listed : {E : Type 0} → Outcome → List E → E → List E
-listed o l e = cond (is_accepted o) (l ++ (e ∷ [])) l
+listed o l e = cond (is_ok o) (l ++ (e ∷ [])) l
 
 -- what a close of a panel leaves
 abbrev pub panel_taken : SurfaceClosed → Way → Way
 panel_taken c w = record {
-  outcome = c.outcome;
+  outcome = outcome_of c;
   registry = c.registry;
-  reports = listed c.outcome w.reports c.report;
+  reports = listed (outcome_of c) w.reports (closed_report c);
   views = w.views;
   windows = w.windows;
 }
@@ -113,7 +110,7 @@ window_steps (h ∷ l) w = window_steps l (window_step h w)
 
 -- before the first step
 abbrev pub begun : CompositionRegistry → Way
-begun r = record { outcome = Accepted; registry = r; reports = []; views = []; windows = [] }
+begun r = record { outcome = Ok tt; registry = r; reports = []; views = []; windows = [] }
 
 -- the views that are live at the start, in slot order
 unfoldable pub views_done : CompositionRegistry → Way
@@ -125,22 +122,21 @@ shutdown_steps r = window_steps (live_handles (views_done r).registry.windows) (
 
 -- the answer: lists and the last revision if no step was refused, else the refusal, with what the steps before it left
 abbrev pub ended : Outcome → Way → Shutdown
-ended Accepted w = record {
-  outcome = Accepted;
-  report = record {
+ended (Ok _) w = record {
+  outcome = Ok (record {
     closed_surfaces = packed close_reports w.reports;
     closed_views = packed handles_table w.views;
     closed_windows = packed handles_table w.windows;
     final_revision = w.registry.revision;
-  };
+  });
   registry = w.registry;
 }
-ended (Refused e) w = record { outcome = Refused e; report = no_shutdown; registry = w.registry }
+ended (Err e) w = record { outcome = Err e; registry = w.registry }
 
 -- 42, 21 and 22 are before any step
 abbrev pub steps_after : Outcome → CompositionRegistry → Shutdown
-steps_after Accepted r = ended (shutdown_steps r).outcome (shutdown_steps r)
-steps_after (Refused e) r = record { outcome = Refused e; report = no_shutdown; registry = r }
+steps_after (Ok _) r = ended (shutdown_steps r).outcome (shutdown_steps r)
+steps_after (Err e) r = record { outcome = Err e; registry = r }
 
 -- the Rust's shutdown, whatever its steps answer
 unfoldable pub shutdown_by_steps : CompositionRegistry → Shutdown

@@ -6,7 +6,7 @@
 ghost use Rattle.std.specs.Prelude.{◌≡◌};
 ghost use Rattle.slices.specs.Parts.{least};
 
-// A stored count, cut at the number of places.
+// A stored count, cut at the number of places: `min`, by the definition that tables with a stored count cite.
 pub fn least(k: usize, n: usize) -> usize
     ensures { result ≡ least k n }
 {

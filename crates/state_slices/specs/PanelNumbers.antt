@@ -1,6 +1,6 @@
 -- A panel's record from its numbers.
-use Rattle.std.specs.Prelude.{ℕ, ◌+◌, List, get_or}
-use Rattle.geometry.specs.declared.rect.OptionalRect.{OptionalRect}
+use Rattle.geometry.specs.declared.rect.SurfaceRect.{SurfaceRect}
+use Rattle.std.specs.Prelude.{ℕ, ◌+◌, List, get_or, Option}
 use Rattle.geometry.specs.declared.transform.SurfaceTransform.{SurfaceTransform}
 use Rattle.geometry.specs.declared.surface.SurfaceGeometry.{SurfaceGeometry}
 use Rattle.records.specs.declared.surface.SurfaceRecord.{SurfaceRecord}
@@ -11,7 +11,7 @@ use Rattle.slices.specs.Parts.{table, row_at}
 use Rattle.state_slices.specs.Layout.{panels_start, panel_size}
 
 -- 5 numbers: a flag, x, y, width, height
-abbrev pub rect_at : List ℕ → ℕ → OptionalRect
+abbrev pub rect_at : List ℕ → ℕ → Option SurfaceRect
 rect_at b k =
     rect_of
     (record {

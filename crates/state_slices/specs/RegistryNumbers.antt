@@ -2,11 +2,10 @@
 use Rattle.std.specs.Prelude.{ℕ, ◌+◌, ◌*◌, List, get_or}
 use Rattle.handles.specs.Slots.{slot_of}
 use Rattle.handles.specs.declared.arena.Arena.{Arena}
-use Rattle.records.specs.Shortcuts.{shortcuts}
-use Rattle.records.specs.declared.shortcut.Shortcuts.{Shortcuts}
+use Rattle.records.specs.Shortcuts.{shortcuts, Shortcuts}
 use Rattle.records.specs.declared.shortcut.SlotShortcut.{SlotShortcut}
-use Rattle.records.specs.declared.surface.SurfaceTable.{SurfaceTable}
-use Rattle.records.specs.declared.view.ViewTable.{ViewTable}
+use Rattle.records.specs.Surfaces.{SurfaceTable}
+use Rattle.records.specs.Views.{ViewTable}
 use Rattle.composition_state.specs.declared.registry.CompositionRegistry.{CompositionRegistry}
 use Rattle.call_fields.specs.Narrow.{within, is_one, short_of}
 use Rattle.call_fields.specs.Groups.{handle_of}

@@ -1,13 +1,11 @@
 -- A router from the numbers of its block; its limit stands elsewhere and is handed in.
 use Rattle.std.specs.Prelude.{ℕ, cond, List, get_or, eqb}
-use Rattle.maps.specs.Bindings.{bindings}
-use Rattle.maps.specs.Sequences.{sequences}
+use Rattle.maps.specs.Bindings.{bindings, Bindings}
+use Rattle.maps.specs.Sequences.{sequences, DeviceSequences}
 use Rattle.maps.specs.declared.keys.BindingKey.{BindingKey}
 use Rattle.maps.specs.declared.keys.BindingKey.TheVariants as key
 use Rattle.maps.specs.declared.bindings.Binding.{Binding}
-use Rattle.maps.specs.declared.bindings.Bindings.{Bindings}
 use Rattle.maps.specs.declared.sequences.DeviceSequence.{DeviceSequence}
-use Rattle.maps.specs.declared.sequences.DeviceSequences.{DeviceSequences}
 use Rattle.input_router.specs.declared.router.PlatformInputRouter.{PlatformInputRouter}
 use Rattle.call_fields.specs.Narrow.{within}
 use Rattle.call_fields.specs.Groups.{handle_of, pointer_of, device_of}

@@ -1,16 +1,12 @@
 -- A trace from its numbers, and the ring of traces: how many there are and where the oldest stands are in front.
-use Rattle.std.specs.Prelude.{ℕ, ◌+◌, ◌%◌, List, [], ◌∷◌, get_or}
+use Rattle.std.specs.Prelude.{ℕ, ◌+◌, ◌%◌, List, [], ◌∷◌, get_or, Option}
 use Rattle.handles.specs.declared.GenerationalHandle.{GenerationalHandle}
-use Rattle.handles.specs.declared.OptionalHandle.{OptionalHandle}
 use Rattle.maps.specs.declared.keys.CompositionPointerId.{CompositionPointerId}
-use Rattle.records.specs.Traces.{hits, deliveries, traces}
+use Rattle.records.specs.Traces.{hits, deliveries, traces, Hits, Deliveries, Traces}
 use Rattle.records.specs.declared.trace.ArbitrationEvent.{ArbitrationEvent}
 use Rattle.records.specs.declared.trace.ArbitrationEvent.TheVariants.{Pointer, PointerStack, PointerFor, PointerStackFor, Keyboard, KeyboardFor, Gamepad, GamepadFor, Text, Shortcut, SystemShortcut}
-use Rattle.records.specs.declared.trace.Hits.{Hits}
 use Rattle.records.specs.declared.trace.InputDelivery.{InputDelivery}
-use Rattle.records.specs.declared.trace.Deliveries.{Deliveries}
 use Rattle.records.specs.declared.trace.CompositionTrace.{CompositionTrace}
-use Rattle.records.specs.declared.trace.Traces.{Traces}
 use Rattle.call_fields.specs.Narrow.{is_one}
 use Rattle.call_fields.specs.Groups.{handle_of, pointer_of}
 use Rattle.slices.specs.Parts.{part, row_at, table_of}
@@ -18,7 +14,7 @@ use Rattle.state_slices.specs.Layout.{traces_start, trace_size}
 use Rattle.state_slices.specs.ViewNumbers.{optional_at}
 
 -- the event of each kind, in declared order
-abbrev pub events : CompositionPointerId → OptionalHandle → ℕ → List ArbitrationEvent
+abbrev pub events : CompositionPointerId → Option GenerationalHandle → ℕ → List ArbitrationEvent
 events p t mask =
     Pointer t ∷ PointerStack ∷ PointerFor p t ∷ PointerStackFor p ∷ Keyboard ∷ KeyboardFor t ∷ Gamepad ∷ GamepadFor t
     ∷ Text ∷ Shortcut ∷ SystemShortcut mask ∷ []
@@ -32,7 +28,7 @@ event_from b =
 unfoldable pub handle_from : List ℕ → GenerationalHandle
 handle_from b = handle_of (get_or b 0 0) (get_or b 1 0)
 
-unfoldable pub optional_from : List ℕ → OptionalHandle
+unfoldable pub optional_from : List ℕ → Option GenerationalHandle
 optional_from b = optional_at b 0
 
 -- 33 numbers: the count, 16 handles

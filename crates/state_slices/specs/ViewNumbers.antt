@@ -1,14 +1,11 @@
 -- A view's record from its numbers: window, metrics and layers stand in the fixed slice, what holds its input in the
 -- moving one.
-use Rattle.std.specs.Prelude.{ℕ, ◌+◌, ◌*◌, List, get_or}
+use Rattle.std.specs.Prelude.{ℕ, ◌+◌, ◌*◌, List, get_or, Option}
 use Rattle.geometry.specs.declared.metrics.ViewMetrics.{ViewMetrics}
 use Rattle.handles.specs.declared.GenerationalHandle.{GenerationalHandle}
-use Rattle.handles.specs.declared.OptionalHandle.{OptionalHandle}
-use Rattle.maps.specs.Captures.{captures}
+use Rattle.maps.specs.Captures.{captures, PointerCaptures}
 use Rattle.maps.specs.declared.captures.Capture.{Capture}
-use Rattle.maps.specs.declared.captures.PointerCaptures.{PointerCaptures}
-use Rattle.records.specs.Layers.{layers}
-use Rattle.records.specs.declared.layers.Layers.{Layers}
+use Rattle.records.specs.Layers.{layers, Layers}
 use Rattle.records.specs.declared.view.ViewRecord.{ViewRecord}
 use Rattle.call_fields.specs.Narrow.{within, signed_of}
 use Rattle.call_fields.specs.Groups.{handle_of, optional_of, pointer_of}
@@ -17,7 +14,7 @@ use Rattle.slices.specs.Parts.{table, part, table_of}
 use Rattle.state_slices.specs.Layout.{views_start, view_size, inputs_start, input_size}
 
 -- 3 numbers: a flag, index, generation
-abbrev pub optional_at : List ℕ → ℕ → OptionalHandle
+abbrev pub optional_at : List ℕ → ℕ → Option GenerationalHandle
 optional_at b k =
     optional_of (record { present = get_or b k 0; index = get_or b (k + 1) 0; generation = get_or b (k + 2) 0 })
 

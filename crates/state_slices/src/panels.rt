@@ -1,5 +1,7 @@
 // A panel's record from its numbers, and the panels of a view.
-ghost use Rattle.std.specs.Prelude.{◌≡◌, ◌+◌, ◌≤◌, length, get_or};
+ghost use Rattle.std.specs.Prelude.{◌≡◌, ◌+◌, ◌≤◌, [], map, length, get_or};
+ghost use Rattle.std.specs.List.{fold};
+ghost use Rattle.lists.specs.Tables.{table, packed, pushed_within};
 ghost use Rattle.records.specs.Surfaces.{no_surface};
 ghost use Rattle.records.specs.Layers.{records_of};
 ghost use Rattle.view_panels.specs.Panels.{panels_of};
@@ -9,14 +11,16 @@ ghost use Rattle.state_slices.specs.PanelNumbers.{rect_at, transform_from, geome
 use crate::layout::{PANEL_SIZE, PANELS_START};
 use call_fields::groups::{RectNumbers, handle_of, rect_of};
 use call_fields::numbered::Numbered;
-use geometry::rect::OptionalRect;
+use geometry::rect::SurfaceRect;
 use geometry::surface::SurfaceGeometry;
 use geometry::transform::SurfaceTransform;
+use handles::GenerationalHandle;
+use lists::table::{Blank, Table};
 use records::layers::Layers;
 use records::surface::{SurfaceDescriptor, SurfaceInputPolicy, SurfaceKind, SurfaceRecord};
 use view_panels::ViewPanels;
 
-fn rect_from(b: &[u64], k: usize) -> OptionalRect
+fn rect_from(b: &[u64], k: usize) -> Option<SurfaceRect>
     requires { k + 5 ≤ length b.now }
     ensures { result ≡ rect_at b.now k }
 {
@@ -85,22 +89,26 @@ pub fn panel_at(fixed: &[u64], i: usize) -> SurfaceRecord
         let end = at + PANEL_SIZE;
         return panel_from(&fixed[at..end]);
     }
-    records::surface::blank()
+    SurfaceRecord::BLANK
+}
+
+fn record_table(fixed: &[u64], layers: &[GenerationalHandle]) -> Table<SurfaceRecord, 16>
+    requires { length fixed.now ≡ fixed_size }
+    ensures { result ≡ fold (pushed_within (table 16 no_surface)) (packed (table 16 no_surface) [])
+        (map (λ h. get_or (panels_from fixed.now) h.index no_surface) layers.now) }
+{
+    let mut found = Table::new();
+    for at in layers {
+        found.push_in_place(panel_at(fixed, at.index as usize));
+    }
+    found
 }
 
 fn records_at(fixed: &[u64], layers: Layers) -> [SurfaceRecord; 16]
     requires { length fixed.now ≡ fixed_size }
     ensures { result ≡ records_of (panels_from fixed.now) layers }
 {
-    let n = layers.count();
-    let mut found = [records::surface::blank(); 16];
-    let mut i: usize = 0;
-    while i < n {
-        let at = layers.items[i];
-        found[i] = panel_at(fixed, at.index as usize);
-        i += 1;
-    }
-    found
+    record_table(fixed, layers.entries()).items
 }
 
 // Layers with the records that stand in their slots.

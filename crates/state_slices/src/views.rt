@@ -8,14 +8,14 @@ use crate::layout::{INPUT_SIZE, INPUTS_START, VIEW_SIZE, VIEWS_START};
 use call_fields::groups::{OptionalNumbers, handle_of, optional_of, pointer_of};
 use call_fields::numbered::Numbered;
 use geometry::metrics::{ViewInsets, ViewMetrics, ViewVisibility};
-use handles::{GenerationalHandle, OptionalHandle};
+use handles::GenerationalHandle;
+use lists::table::Table;
 use maps::captures::{Capture, PointerCaptures};
-use maps::keys::CompositionPointerId;
 use records::layers::Layers;
 use records::view::ViewRecord;
 use slices::least;
 
-pub fn optional_from(b: &[u64], k: usize) -> OptionalHandle
+pub fn optional_from(b: &[u64], k: usize) -> Option<GenerationalHandle>
     requires { k + 3 ≤ length b.now }
     ensures { result ≡ optional_at b.now k }
 {
@@ -62,17 +62,10 @@ pub fn layers_from(b: &[u64]) -> Layers
     requires { length b.now ≡ view_size }
     ensures { result ≡ layers_from b.now }
 {
-    let none = GenerationalHandle {
-        index: 0,
-        generation: 0,
-    };
-    let mut items = [none; 16];
+    let mut items = [GenerationalHandle::ZERO; 16];
     let k = b[15] as usize;
-    let n = least(k, 16);
-    let mut i: usize = 0;
-    while i < n {
+    for i in 0..least(k, 16) {
         items[i] = handle_of(b[16 + i * 2], b[17 + i * 2]);
-        i += 1;
     }
     Layers { items, len: k }
 }
@@ -81,56 +74,40 @@ fn capture_from(m: &[u64], i: usize) -> Capture
     requires { (length m.now ≡ input_size) × (i < 32) }
     ensures { result ≡ capture_at m.now i }
 {
-    let pointer = pointer_of(m[10 + i * 5], m[11 + i * 5], m[12 + i * 5]);
-    let surface = handle_of(m[13 + i * 5], m[14 + i * 5]);
-    Capture { pointer, surface }
+    Capture {
+        pointer: pointer_of(m[10 + i * 5], m[11 + i * 5], m[12 + i * 5]),
+        surface: handle_of(m[13 + i * 5], m[14 + i * 5]),
+    }
 }
 
 pub fn captures_from(m: &[u64]) -> PointerCaptures
     requires { length m.now ≡ input_size }
     ensures { result ≡ captures_from m.now }
 {
-    let pointer = CompositionPointerId {
-        device: 0,
-        device_generation: 0,
-        contact: 0,
-    };
-    let surface = GenerationalHandle {
-        index: 0,
-        generation: 0,
-    };
-    let blank = Capture { pointer, surface };
-    let mut entries = [blank; 32];
+    let mut items = [Capture::ZERO; 32];
     let k = m[9] as usize;
-    let n = least(k, 32);
-    let mut i: usize = 0;
-    while i < n {
-        entries[i] = capture_from(m, i);
-        i += 1;
+    for i in 0..least(k, 32) {
+        items[i] = capture_from(m, i);
     }
-    PointerCaptures { entries, len: k }
+    PointerCaptures {
+        table: Table { items, len: k },
+    }
 }
 
 // A view's numbers in the fixed slice, and those in the moving one.
+#[tactic(auto, unfolding(crate::specs::ViewNumbers::view_from))]
 pub fn view_from(b: &[u64], m: &[u64]) -> ViewRecord
     requires { (length b.now ≡ view_size) × (length m.now ≡ input_size) }
     ensures { result ≡ view_from b.now m.now }
 {
-    let window = handle_of(b[0], b[1]);
-    let metrics = metrics_from(b);
-    let surfaces = layers_from(b);
-    let focus = optional_from(m, 0);
-    let pointer_capture = optional_from(m, 3);
-    let pointer_captures = captures_from(m);
-    let ime = optional_from(m, 6);
     ViewRecord {
-        window,
-        metrics,
-        surfaces,
-        focus,
-        pointer_capture,
-        pointer_captures,
-        ime,
+        window: handle_of(b[0], b[1]),
+        metrics: metrics_from(b),
+        surfaces: layers_from(b),
+        focus: optional_from(m, 0),
+        pointer_capture: optional_from(m, 3),
+        pointer_captures: captures_from(m),
+        ime: optional_from(m, 6),
     }
 }
 
@@ -146,8 +123,5 @@ pub fn view_at(fixed: &[u64], moving: &[u64], i: usize) -> ViewRecord
         let to = from + INPUT_SIZE;
         return view_from(&fixed[at..end], &moving[from..to]);
     }
-    ViewRecord::new(GenerationalHandle {
-        index: 0,
-        generation: 0,
-    })
+    ViewRecord::new(GenerationalHandle::ZERO)
 }

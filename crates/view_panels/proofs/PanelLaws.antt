@@ -1,26 +1,18 @@
 -- What is gathered is what stands in the tables, by induction on the layers; and a panel by its place.
-use Prim.Native.Nat.{ℕ, zero, suc, ◌≤◌, ◌<◌}
+use Prim.Native.Nat.{ℕ, zero, suc, ◌<◌}
 use mathlib.Core.Path.{◌≡◌, refl, sym, ap, ◌∙◌}
 use mathlib.Core.List.{List, [], ◌∷◌, ◌++◌, map, reverse, reverse-cons}
 use native.Mathlib.Omega.{arith}
 use lib.ListN.{length, get_or}
-use mir.Val.{Val}
-use denote.Laws.{Is}
-use denote.Struct.Laws as LL
 use Rattle.lists.specs.Tables.{entries_of}
 use Rattle.lists.proofs.ListLaws.{map_snoc}
 use Rattle.lists.proofs.TableLaws.{entry}
 use Rattle.handles.specs.Handles.{handle_of}
 use Rattle.handles.specs.declared.GenerationalHandle.{GenerationalHandle}
-use Rattle.records.specs.declared.layers.Layers.{Layers}
+use Rattle.records.specs.Layers.{Layers, layers, records_of}
 use Rattle.records.specs.declared.surface.SurfaceRecord.{SurfaceRecord}
-use Rattle.records.specs.declared.surface.SurfaceTable.{SurfaceTable}
-use Rattle.records.specs.Layers.{layers, records_of}
-use Rattle.records.specs.Surfaces.{no_surface, surface_at}
-use Rattle.records.proofs.LayerLaws as layer
+use Rattle.records.specs.Surfaces.{SurfaceTable, no_surface, surface_at}
 use Rattle.view_panels.specs.declared.ViewPanels.{ViewPanels}
-use Rattle.view_panels.specs.contracts.ViewPanels as T
-use Rattle.view_panels.proofs.ViewPanels.TheLaws as T'
 use Rattle.view_panels.specs.Panels.{Panel, handles_of, with_records, standing, panels_of, panel_in}
 
 pub handles_reverse : (l : List Panel) → handles_of (reverse l) ≡ reverse (handles_of l)
@@ -69,7 +61,3 @@ pub standing_here : (p : ViewPanels) (i : ℕ) → i < length (entries_of layers
 standing_here p i h =
     with_here (entries_of layers p.layers) p.records i h
     ∙ (λ j. record { surface = entry layers p.layers i none h j; descriptor = (get_or p.records i no_surface).descriptor })
-
--- at most 16, read off what the type owns
-pub few : (p : ViewPanels) {vs : List Val} → Is T.the_row p vs → length (entries_of layers p.layers) ≤ 16
-few p {vs} q = layer.few p.layers (LL.owed T.the_type T'.the_laws p vs q).0

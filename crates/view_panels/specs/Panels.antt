@@ -2,14 +2,11 @@
 use Rattle.std.specs.Prelude.{List, [], ◌∷◌, map}
 use Rattle.lists.specs.Tables.{entries_of}
 use Rattle.handles.specs.declared.GenerationalHandle.{GenerationalHandle}
-use Rattle.records.specs.declared.layers.Layers.{Layers}
+use Rattle.records.specs.Layers.{Layers, layers, records_of}
 use Rattle.records.specs.declared.surface.SurfaceDescriptor.{SurfaceDescriptor}
 use Rattle.records.specs.declared.surface.SurfaceRecord.{SurfaceRecord}
-use Rattle.records.specs.declared.surface.SurfaceTable.{SurfaceTable}
-use Rattle.records.specs.declared.view.ViewTable.{ViewTable}
-use Rattle.records.specs.Layers.{layers, records_of}
-use Rattle.records.specs.Surfaces.{no_surface, descriptor_of}
-use Rattle.records.specs.Views.{view_at}
+use Rattle.records.specs.Surfaces.{SurfaceTable, no_surface, descriptor_of}
+use Rattle.records.specs.Views.{ViewTable, view_at}
 use Rattle.view_panels.specs.declared.ViewPanels.{ViewPanels}
 
 pub record Panel : Type 0 where

@@ -5,7 +5,7 @@
 ghost use Rattle.std.specs.Prelude.{◌≡◌};
 ghost use Rattle.view_panels.specs.Panels.{panels_of};
 
-use records::layers::Layers;
+use records::layers::{Layers, records_of};
 use records::surface::SurfaceRecord;
 
 // The record of the layer at place i stands at place i.
@@ -16,12 +16,11 @@ pub struct ViewPanels {
 }
 
 // Layers with the records that stand in their slots, so that what reads them needs no table.
-pub fn gather(records: [SurfaceRecord; 64], layers: Layers) -> ViewPanels
-    ensures { result ≡ panels_of records layers }
+pub fn gather(records: &[SurfaceRecord; 64], layers: Layers) -> ViewPanels
+    ensures { result ≡ panels_of records.now layers }
 {
-    let found = layers.records_of(records);
     ViewPanels {
         layers,
-        records: found,
+        records: records_of(layers, records),
     }
 }

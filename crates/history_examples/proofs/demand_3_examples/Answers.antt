@@ -1,10 +1,10 @@
 -- Each part holds by computing the history; the claim fails where the router holds, or lists, other presses than the book.
+use Rattle.std.specs.Prelude.{Some}
 use Prim.Native.Nat.{ℕ}
 use mathlib.Core.Path.{◌≡◌, refl, sym, ap, ◌∙◌, subst}
 use mathlib.Core.Bool.{true, false}
 use mathlib.Core.Logic.{inl, inr}
 use mathlib.Core.List.{List, [], ◌∷◌, ◌++◌}
-use mathlib.Core.Option.{some}
 use native.Mathlib.Omega.{arith}
 use lib.Dec.{eqb}
 use Rattle.lists.proofs.ListLaws.{clash}
@@ -13,7 +13,7 @@ use Rattle.maps.specs.declared.bindings.Binding.{Binding}
 use Rattle.calls.specs.declared.call.Call.TheVariants.{Router}
 use Rattle.calls.specs.declared.call.RouterCall.TheVariants.{ReleaseSurface}
 use Rattle.input_events.specs.declared.event.PlatformInputPayload.TheVariants.{DeviceDisconnected}
-use Rattle.book.specs.Book.{Asked, empty_book}
+use Rattle.book.specs.Book.{Asked, empty_book, home_of, with_capture, without_captures, with_press, without_press, without_presses}
 use Rattle.book.specs.Examples.{handle_at}
 use Rattle.lists.specs.Below.{all_below, count_below, iter_below}
 use Rattle.lists.specs.Tables.{entries_of, packed, pushed}
@@ -61,7 +61,6 @@ use Rattle.registry_step.specs.Steps.{panel_step, input_step, shortcut_step}
 use Rattle.read_step.specs.Reads.{read_step}
 use Rattle.counter.specs.Answers.{nothing_listed, captures_listed, close_listed, shutdown_listed, arbitration_alone, releases_alone}
 use Rattle.counter.specs.Step.{close_step, router_step, stepped}
-use Rattle.book.specs.Book.{home_of, with_capture, without_captures, with_press, without_press, without_presses}
 use Rattle.book.specs.Notes.{payload_change, router_change, change, changed, noted_panel, noted_input, noted_close, registered, noted, note}
 use Rattle.book.specs.Owed.{payload_concern, router_concern, concern, panel_put, panels_of, panel_by_panel, concerned_presses, concerned_captures, then_captures, owed_presses, owed_captures, owed, without_concerned}
 use Rattle.history.specs.Histories.{Start, fresh, call, Entry, entry_of, after, history, book_after}
@@ -82,7 +81,7 @@ premises e es s a b n = record {
 
 -- a close, with a read before the panel's release
 closing : (h : GenerationalHandle) (e g f : Entry) (es : List Entry) → is_read g.asked.call ≡ true → is_shutdown e.asked.call ≡ false → eqb e.told.number 21 ≡ false → eqb e.told.number 22 ≡ false
-    → closed_in e ≡ some h → f.asked.call ≡ Router (ReleaseSurface h) → CallPremises e (g ∷ f ∷ es)
+    → closed_in e ≡ Some h → f.asked.call ≡ Router (ReleaseSurface h) → CallPremises e (g ∷ f ∷ es)
 closing h e g f es t s a b q n = premises e (g ∷ f ∷ es) s a b (subst (λ x. ReleasedNext x (g ∷ f ∷ es)) (sym q) (inl (t, inr (inl n))))
 
 -- ---- how the claim fails

@@ -15,9 +15,3 @@ pub loop-entry-preserved : goal.loop-entry-preserved
 loop-entry-preserved c =
     place_written released_numbers _ c.loop-entry.entry-index _ (plain _) _ c.loop-entry-test.true c.loop-entry.invariant
     (rw c.release_number.ensures at c.plain.ensures)
-
-pub returns : goal.returns
-unfolding entries_of
-returns c =
-    let last : c.loop-entry.entry-index ≡ length c.front-entries.result.now = omega arith in
-    simp (c.loop-entry.invariant, last, c.front-entries.ensures, take-length)

@@ -15,9 +15,3 @@ pub loop-report-preserved : goal.loop-report-preserved
 loop-report-preserved c =
     place_written report_numbers _ c.loop-report.report-index _ (plain _) _ c.loop-report-test.true c.loop-report.invariant
     c.write_report.ensures
-
-pub returns : goal.returns
-unfolding entries_of
-returns c =
-    let last : c.loop-report.report-index ≡ length c.front-reports.result.now = omega arith in
-    simp (c.loop-report.invariant, last, c.front-reports.ensures, take-length)

@@ -2,14 +2,8 @@
 use Rattle.answer_text.proofs.PutLaws.{spell_start, spell_turn, spell_done}
 use Rattle.answer_text.proofs.put.put_digits.Goals as goal
 
-pub loop-j-init : goal.loop-j-init
-loop-j-init c = spell_start _ _ _ c.args.buf.now c.args.buf.now
-
 pub loop-j-preserved : goal.loop-j-preserved
 loop-j-preserved c = spell_turn _ _ _ _ _ _ _ c.requires c.loop-j-test.true c.loop-j.invariant
-
-pub shape_of-buf : goal.shape_of-buf
-shape_of-buf c = c.loop-j.invariant.long
 
 pub returns : goal.returns
 returns c = spell_done _ _ _ _ _ _ _ c.loop-j-test.false c.loop-j.invariant

@@ -14,9 +14,3 @@ loop-release-init c = c.write.ensures
 pub loop-release-preserved : goal.loop-release-preserved
 loop-release-preserved c =
     place_written release_numbers _ c.loop-release.release-index _ (plain _) _ c.loop-release-test.true c.loop-release.invariant c.write_release.ensures
-
-pub returns : goal.returns
-unfolding entries_of
-returns c =
-    let last : c.loop-release.release-index ≡ length c.front-releases.result.now = omega arith in
-    simp (c.loop-release.invariant, last, c.front-releases.ensures, take-length)

@@ -1,43 +1,43 @@
--- `push_trace` meets its contract: after each turn the traces from the first kept on stand in the new table.
+-- `push_trace` meets its contract: a turn stores one trace more.
+use Rattle.std.proofs.Common.{rules}
+use mathlib.Core.Path.{◌≡◌, ap, ◌∙◌}
+use Prim.Native.Nat.{◌≤◌, ◌+◌, ◌-◌}
 use native.Mathlib.Omega.{arith}
-use Prim.Native.Nat.{◌<◌, ◌+◌, ◌-◌}
-use mathlib.Core.Path.{◌≡◌, sym, ap, ◌∙◌}
+use lib.ListN.{length, take, drop}
 use mathlib.Core.List.{[]}
-use lib.ListN.{length}
-use Rattle.lists.specs.Tables.{entries_of, packed, pushed}
-use Rattle.lists.proofs.TableLaws.{entry, len_packed}
-use Rattle.records.specs.declared.trace.Traces.{Traces}
-use Rattle.records.specs.Traces.{traces as state_traces}
-use Rattle.records.proofs.TraceLaws.{few}
+use lib.Seq.{take-length}
+use borrow.Author.Tests.{lt-ltb}
+use Rattle.lists.specs.Tables.{pushed, pushed_within}
+use Rattle.lists.proofs.TableLaws.{few, len_packed}
+use Rattle.records.specs.Traces.{Traces, traces}
 use Rattle.composition_arbitration.specs.Trace.{kept_traces}
-use Rattle.composition_arbitration.proofs.TraceLaws.{some_kept, few_kept, part_none, turn, done}
+use Rattle.composition_arbitration.proofs.TraceLaws.{few_stay, turn, done}
 use Rattle.composition_arbitration.proofs.trace.push_trace.Goals as goal
 
-pub overflow_add-n : goal.overflow_add-n
-overflow_add-n c = omega (arith, few c.args.traces c.well_formed.0, c.count-n.ensures)
+pub loop-old-init : goal.loop-old-init
+loop-old-init c =
+    let l = c.entries-stored.result.now in
+    let from : c.saturating_sub-from.result ≡ (length l + 1) - kept_traces c.args.limit = c.saturating_sub-from.ensures ∙ rw c.kept_traces.ensures in
+    let few_stored : length l ≤ 32 = rw c.entries-stored.ensures (few traces c.args.traces (search rules)) in
+    (few_stay l c.args.limit _ few_stored from, omega (arith, ap (λ (t : Traces). t.len) c.new-next.ensures ∙ len_packed traces []), c.new-next.ensures)
 
-pub loop-i-init : goal.loop-i-init
-loop-i-init c =
-    let a = c.args in
-    let kept = c.first_kept-from.ensures in
-    let f = c.first_kept-from.result in
-    let n = c.count-n.result in
-    let is : f ≡ (n + 1) - kept_traces a.limit = kept ∙ rw c.kept_traces.ensures in
-    (omega arith, omega (arith, is, some_kept a.limit), omega (arith, few a.traces c.well_formed.0, c.count-n.ensures), is, c.new-next.ensures ∙ ap (packed state_traces) (sym (part_none (entries_of state_traces a.traces) f)), omega (arith, is, few_kept a.limit), omega (arith, ap (λ (t : Traces). t.len) c.new-next.ensures ∙ len_packed state_traces []))
-
-pub loop-i-preserved : goal.loop-i-preserved
-unfolding pushed
-loop-i-preserved c =
-    let a = c.args in
-    let k = c.loop-i in
-    let from = c.first_kept-from.result in
-    let l = entries_of state_traces a.traces in
-    let within : k.i < length l = omega arith in
-    (omega arith, omega arith, omega arith, k.invariant.3, ap (pushed state_traces k.next) (sym (entry state_traces a.traces k.i _ within)) ∙ turn l k.next from k.i k.invariant.4 _ (omega arith) within (omega arith), omega arith, omega arith)
+pub loop-old-preserved : goal.loop-old-preserved
+unfolding pushed pushed_within
+loop-old-preserved c =
+    let k = c.loop-old in
+    let stored = c.entries-stored.result.now in
+    let from = c.saturating_sub-from.result in
+    let room = lt-ltb k.next.len 32 (omega arith) in
+    let stored_is = rw room at c.push_in_place.ensures in
+    (k.invariant.0, omega (arith, ap (λ (t : Traces). t.len) stored_is), stored_is ∙ rw k.invariant.2 (turn (take (length stored - from) (drop from stored)) k.old-index _ (omega arith) k.invariant.0))
 
 pub returns : goal.returns
-unfolding pushed
+unfolding pushed pushed_within
 returns c =
-    let a = c.args in
-    let k = c.loop-i in
-    done a.limit a.traces k.next c.first_kept-from.result k.i a.trace k.invariant.4 (omega arith) (k.invariant.3 ∙ rw c.count-n.ensures)
+    let k = c.loop-old in
+    let stored = c.entries-stored.result.now in
+    let from = c.saturating_sub-from.result in
+    let all_of_them : k.old-index ≡ length (take (length stored - from) (drop from stored)) = omega arith in
+    let room = lt-ltb k.next.len 32 (omega arith) in
+    (rw room at c.push_in_place-2.ensures) ∙ rw (k.invariant.2, all_of_them, take-length)
+    (done c.args.limit c.args.traces stored from c.args.trace c.entries-stored.ensures (c.saturating_sub-from.ensures ∙ rw c.kept_traces.ensures))

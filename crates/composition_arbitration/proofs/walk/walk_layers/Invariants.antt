@@ -9,8 +9,5 @@ use Rattle.composition_arbitration.specs.Layers.{verdict_of}
 use Rattle.composition_arbitration.proofs.WalkLaws.{Walking}
 use Rattle.composition_arbitration.proofs.walk.walk_layers.Given as goal
 
-abbrev pub invariant-loop-left : goal.invariant-loop-left
-invariant-loop-left l = (l.left ≤ length (entries_of state_layers l.layers)) × (length (entries_of state_layers l.layers) ≤ 16) × Walking (verdict_of l.choice (entries_of state_hits l.hits)) (standing (record { layers = l.layers; records = l.found })) l.deliveries l.left
-
-abbrev pub decreases-loop-left : goal.decreases-loop-left
-decreases-loop-left l = l.left
+abbrev pub invariant-loop-i : goal.invariant-loop-i
+invariant-loop-i l = (l.i ≤ length (entries_of state_layers l.panels.layers)) × (length (entries_of state_layers l.panels.layers) ≤ 16) × Walking (verdict_of l.choice (entries_of state_hits l.hits)) (standing l.panels) l.deliveries l.i

@@ -1,25 +1,30 @@
--- `close_layers` meets its contract: what is still below makes of the work so far what the whole makes of its start.
-use Prim.Native.Nat.{◌-◌}
-use native.Mathlib.Omega.{arith}
+-- What is left to close makes of the work so far what the whole makes of its start.
+use Rattle.std.proofs.Common.{◌≡◌, ◌+◌, ◌<◌, ◌≤◌, ◌∙◌, List, reverse, length, ap, sym, arith, rules}
+use Rattle.lists.proofs.TableLaws.{few}
+use Rattle.handles.specs.declared.GenerationalHandle.{GenerationalHandle}
 use Rattle.records.specs.Layers.{layers}
-use Rattle.records.proofs.LayerLaws.{few}
-use Rattle.composition_close.proofs.ShutdownLaws.{closed_start, closed_next, closed_end, closed_count}
+use Rattle.composition_close.specs.Shutdown.{layers_closed}
+use Rattle.composition_close.proofs.ShutdownLaws.{closed_count, closed_top, closed_none}
 use Rattle.composition_close.proofs.shutdown.close_layers.Goals as goal
 
-pub loop-i-init : goal.loop-i-init
-loop-i-init c =
-    let a = c.args in
-    (omega arith, omega (arith, few a.panels c.well_formed.1.0), c.count-n.ensures, omega arith, closed_start layers a.panels a.work _ c.count-n.ensures)
+pub close_layer-done-requires : goal.close_layer-done-requires
+close_layer-done-requires c =
+    let cases = c.in-Some.ensures {u = tt} in
+    omega (arith, c.loop-top.invariant.1, cases.cases.1, c.requires, few layers c.args.panels (search rules))
 
-pub loop-i-preserved : goal.loop-i-preserved
-loop-i-preserved c =
-    let l = c.loop-i in
-    let a = c.args in
-    let one_more = closed_count _ l.done c.close_layer-done.result c.close_layer-done.ensures in
-    (omega arith, omega arith, l.invariant.2, omega arith, closed_next layers a.panels a.work l.i (l.i - 1) _ l.done c.close_layer-done.result (omega arith) (omega arith) l.invariant.4 c.close_layer-done.ensures)
+pub loop-top-preserved : goal.loop-top-preserved
+loop-top-preserved c =
+    let cases = c.in-Some.ensures {u = tt} in
+    let l = c.loop-top in
+    let next = c.close_layer-done in (
+      l.invariant.0 ∙ closed_top l.rest.now c.in-Some.below.now c.in-Some.top.now l.done next.result cases.cases.0 next.ensures,
+      omega (arith, l.invariant.1, cases.cases.1, closed_count c.in-Some.top.now l.done next.result next.ensures),
+    )
 
 pub returns : goal.returns
 returns c =
-    let l = c.loop-i in
-    let a = c.args in
-    (closed_end layers a.panels a.work l.i l.done l.invariant.4 (omega arith), omega arith)
+    let none = c.in_default.ensures {u = tt} in
+    let l = c.loop-top in (
+      sym (l.invariant.0 ∙ closed_none l.rest.now l.done none.cases),
+      omega (arith, l.invariant.1, none.cases, few layers c.args.panels (search rules)),
+    )

@@ -1,14 +1,14 @@
--- `close_layers` meets its contract: what is still below makes of the work so far what the whole makes of its start.
-use Prim.Native.Nat.{◌+◌, ◌≤◌}
-use mathlib.Core.Path.{◌≡◌}
-use lib.ListN.{length}
+-- What is left to close makes of the work so far what the whole makes of its start.
+use Rattle.std.proofs.Common.{◌≡◌, ◌+◌, reverse, length}
 use Rattle.lists.specs.Tables.{entries_of}
 use Rattle.records.specs.Layers.{layers}
-use Rattle.composition_close.proofs.ShutdownLaws.{ClosedDown}
+use Rattle.composition_close.specs.Shutdown.{layers_closed}
 use Rattle.composition_close.proofs.shutdown.close_layers.Given as goal
 
-abbrev pub invariant-loop-i : goal.invariant-loop-i
-invariant-loop-i l = (l.i ≤ l.n) × (l.n ≤ 16) × (l.n ≡ length (entries_of layers l.panels)) × (l.done.reports.len + l.i ≡ l.initial.done.reports.len + l.n) × ClosedDown layers l.panels l.initial.done l.i l.done
+abbrev pub invariant-loop-top : goal.invariant-loop-top
+invariant-loop-top l =
+    (layers_closed (reverse (entries_of layers l.fn.panels)) l.fn.work ≡ layers_closed (reverse l.rest) l.done)
+    × (l.done.reports.len + length l.rest ≡ l.fn.work.reports.len + length (entries_of layers l.fn.panels))
 
-abbrev pub decreases-loop-i : goal.decreases-loop-i
-decreases-loop-i l = l.i
+abbrev pub decreases-loop-top : goal.decreases-loop-top
+decreases-loop-top l = length l.rest

@@ -1,12 +1,8 @@
--- `close_windows` meets its contract: after i turns the windows of the first i slots are closed.
-use Prim.Native.Nat.{◌≤◌, ◌-◌}
-use mathlib.Core.Path.{◌≡◌}
+-- After i turns the windows of the first i slots are closed.
+use Rattle.std.proofs.Common.{◌≡◌}
 use Rattle.lists.specs.Below.{iter_below}
 use Rattle.composition_close.specs.Shutdown.{window_closed_at}
 use Rattle.composition_close.proofs.shutdown.close_windows.Given as goal
 
 abbrev pub invariant-loop-i : goal.invariant-loop-i
-invariant-loop-i l = (l.i ≤ l.n) × (l.n ≤ 64) × (l.left ≡ iter_below window_closed_at l.i l.initial.left)
-
-abbrev pub decreases-loop-i : goal.decreases-loop-i
-decreases-loop-i l = l.n - l.i
+invariant-loop-i l = l.left ≡ iter_below window_closed_at l.i l.initial.left

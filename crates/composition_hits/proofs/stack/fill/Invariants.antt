@@ -8,8 +8,5 @@ use Rattle.composition_hits.specs.HitTest.{is_panel_hit}
 use Rattle.composition_hits.proofs.HitLaws.{Filling}
 use Rattle.composition_hits.proofs.stack.fill.Given as goal
 
-abbrev pub invariant-loop-left : goal.invariant-loop-left
-invariant-loop-left l = (l.left ≤ length (entries_of state_layers l.layers)) × (length (entries_of state_layers l.layers) ≤ 16) × Filling (is_panel_hit l.point) (standing (record { layers = l.layers; records = l.found })) l.initial.buffer l.buffer l.left l.at
-
-abbrev pub decreases-loop-left : goal.decreases-loop-left
-decreases-loop-left l = l.left
+abbrev pub invariant-loop-i : goal.invariant-loop-i
+invariant-loop-i l = (l.i ≤ length (entries_of state_layers l.panels.layers)) × (length (entries_of state_layers l.panels.layers) ≤ 16) × Filling (is_panel_hit l.point) (standing l.panels) l.initial.buffer l.buffer l.i l.at

@@ -8,8 +8,5 @@ use Rattle.composition_hits.specs.HitTest.{is_panel_hit}
 use Rattle.composition_hits.proofs.TableLaws.{Listing}
 use Rattle.composition_hits.proofs.table.list_hits.Given as goal
 
-abbrev pub invariant-loop-left : goal.invariant-loop-left
-invariant-loop-left l = (l.left ≤ length (entries_of state_layers l.layers)) × (length (entries_of state_layers l.layers) ≤ 16) × Listing (is_panel_hit l.point) (standing (record { layers = l.layers; records = l.found })) l.hits l.left
-
-abbrev pub decreases-loop-left : goal.decreases-loop-left
-decreases-loop-left l = l.left
+abbrev pub invariant-loop-i : goal.invariant-loop-i
+invariant-loop-i l = (l.i ≤ length (entries_of state_layers l.panels.layers)) × (length (entries_of state_layers l.panels.layers) ≤ 16) × Listing (is_panel_hit l.point) (standing l.panels) l.hits l.i

@@ -3,8 +3,7 @@ use mathlib.Core.Path.{◌≡◌, sym, ap, ◌∙◌}
 use borrow.Author.Tests.{eq-eqb, ne_eqb}
 use lib.ListN.{length}
 use Rattle.lists.proofs.TableLaws.{len_packed}
-use Rattle.release_lists.specs.declared.captures.CaptureList.{CaptureList}
-use Rattle.release_lists.specs.Captures.{capture_list}
+use Rattle.release_lists.specs.Captures.{CaptureList, capture_list}
 use Rattle.composition_input.specs.Captures.{device_captures, release_device_pointer_captures}
 use Rattle.composition_input.proofs.captures.release_device_pointer_captures.Goals as goal
 
@@ -14,8 +13,8 @@ returns-then-list-eq0 c =
     let a = c.args in
     let captures = device_captures a.registry.views a.device a.device_generation in
     let counted = ap (λ (t : CaptureList). t.len) c.device_captures-list.ensures ∙ len_packed capture_list captures in
-    c.released_with.ensures captures c.device_captures-list.ensures
-    ∙ rw (eq-eqb (length captures) 0 (sym counted ∙ c.if-list-eq0.true), c.then-refusal.ensures, c.damage.ensures, c.refuse_if-unknown.ensures, c.is_no_device.ensures)
+    c.with.ensures
+    ∙ rw (c.device_captures-list.ensures, eq-eqb (length captures) 0 (sym counted ∙ c.if-list-eq0.true), c.device_refusal-refusal.ensures)
 
 pub returns : goal.returns
 unfolding release_device_pointer_captures
@@ -23,5 +22,5 @@ returns c =
     let a = c.args in
     let captures = device_captures a.registry.views a.device a.device_generation in
     let counted = ap (λ (t : CaptureList). t.len) c.device_captures-list.ensures ∙ len_packed capture_list captures in
-    c.released_with-2.ensures captures c.device_captures-list.ensures
-    ∙ rw (ne_eqb (length captures) 0 (λ h. c.if-list-eq0.false (counted ∙ h)), c.settle.ensures, c.with_views.ensures, c.device_cleared-cleared.ensures, c.then-refusal.ensures, c.damage.ensures, c.refuse_if-unknown.ensures, c.is_no_device.ensures)
+    c.with-2.ensures
+    ∙ rw (c.device_captures-list.ensures, ne_eqb (length captures) 0 (λ h. c.if-list-eq0.false (counted ∙ h)), c.settle.ensures, c.with_views.ensures, c.device_cleared-cleared.ensures, c.device_refusal-refusal.ensures)

@@ -6,4 +6,4 @@ use Rattle.desk.proofs.opening.attach.Goals as goal
 
 pub returns : goal.returns
 unfolding attached
-returns c = rw (c.create.ensures, c.default-geometry.ensures, to_z-of_z {w = w32} c.ranges.z_order)
+returns c = rw (c.create.ensures, c.default.ensures, to_z-of_z {w = w32} c.ranges.z_order)

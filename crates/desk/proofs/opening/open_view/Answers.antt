@@ -4,4 +4,4 @@ use Rattle.desk.proofs.opening.open_view.Goals as goal
 
 pub returns : goal.returns
 unfolding view_opened
-returns c = rw (c.create-second.ensures, c.create-first.ensures)
+returns c = rw (c.create-view.ensures, c.create-window.ensures)

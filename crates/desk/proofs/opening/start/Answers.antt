@@ -4,4 +4,4 @@ use Rattle.desk.proofs.opening.start.Goals as goal
 
 pub returns : goal.returns
 unfolding start_counter
-returns c = rw (c.new-composition.ensures, c.new-routing.ensures)
+returns c = rw (c.new.ensures, c.new-2.ensures)

@@ -1,10 +1,10 @@
 -- `round_i32` meets its contract: doubling is exact, so the whole part of twice the float, halved away from zero, is the nearest `i32`.
+use Rattle.std.specs.Prelude.{Some}
 use Rattle.std.proofs.Common.{◌≡◌, ◌^◌, ◌<◌, ℤ, sym, ap, ◌∙◌, subst, to_z-of_z, w32, w64, SFits, to_z, of_z, rules}
 use lib.Signed.{mag}
 use lib.Ieee.{Float, of_bits, neg, to_signed}
 use lib.Ieee.Casts.{to_signed_in}
 use Rattle.geometry.specs.Rounding.{half_away}
-use Rattle.geometry.specs.declared.rounding.OptionalI32.TheVariants.{Some}
 use Rattle.geometry.proofs.Integers.{widens}
 use Rattle.geometry.proofs.RangeTests.{under_low, over_high}
 use Rattle.geometry.proofs.Doubled.{twice}

@@ -24,32 +24,6 @@ returns c =
     simp (as_i64 f.m11, as_i64 f.m12, as_i64 f.m21, as_i64 f.m22, to_z-of_z left, to_z-of_z right)
     (zero_bits _ (determinant_fits _ f))
 
-pub overflow_cast-determinant : goal.overflow_cast-determinant
-overflow_cast-determinant c = cast_fits (i32_fits c.args.transform.m11_q16 c.struct_told-1.given.0.1)
-
-pub overflow_cast-determinant-2 : goal.overflow_cast-determinant-2
-overflow_cast-determinant-2 c = cast_fits (i32_fits c.args.transform.m22_q16 c.struct_told-2-1.given.1.1.1.0.1)
-
-pub overflow_mul-determinant : goal.overflow_mul-determinant
-overflow_mul-determinant c =
-    let t = c.args.transform in
-    let m11 = i32_fits t.m11_q16 c.struct_told-2-1.given.0.1 in
-    let m22 = i32_fits t.m22_q16 c.struct_told-2-1.given.1.1.1.0.1 in
-    simp (as_i64 m11, as_i64 m22) (mul_fits m11 m22)
-
-pub overflow_cast-determinant-3 : goal.overflow_cast-determinant-3
-overflow_cast-determinant-3 c =
-    let t = c.args.transform in
-    cast_fits (i32_fits t.m12_q16 c.struct_told-3-1.given.1.0.1)
-
-pub overflow_cast-determinant-4 : goal.overflow_cast-determinant-4
-overflow_cast-determinant-4 c = cast_fits (entries c).m21
-
-pub overflow_mul-determinant-2 : goal.overflow_mul-determinant-2
-overflow_mul-determinant-2 c =
-    let f = entries c in
-    simp (as_i64 f.m12, as_i64 f.m21) (mul_fits f.m12 f.m21)
-
 pub overflow_sub-determinant : goal.overflow_sub-determinant
 overflow_sub-determinant c =
     let f = entries c in

@@ -1,15 +1,7 @@
--- The loop gathers, below each index, whether every slot passed stands in the free list as often as is due.
-use mathlib.Core.Path.{sym, ap, ◌∙◌}
-use native.Mathlib.Omega.{arith}
-use Rattle.lists.specs.Below.{all_below}
-use Rattle.lists.proofs.BelowLaws.{all_none, all_more}
+-- A slot that does not stand as is due fails the test of all.
+use Rattle.std.proofs.Common.{sym, rules}
+use Rattle.lists.proofs.BelowLaws.{all_fails}
 use Rattle.handles.proofs.well_formed.each_stands_as_due.Goals as goal
 
-pub loop-i-init : goal.loop-i-init
-loop-i-init c = (omega arith, sym (all_none _))
-
-pub loop-i-preserved : goal.loop-i-preserved
-loop-i-preserved c = (omega arith, simp (all_more, c.both-ok.ensures, c.entries_due-due.ensures, c.occurrences-count.ensures, c.loop-i.invariant.1))
-
-pub returns : goal.returns
-returns c = c.loop-i.invariant.1 ∙ ap (all_below _) (omega arith)
+pub returns-then-occurrences-entries_due : goal.returns-then-occurrences-entries_due
+returns-then-occurrences-entries_due c = sym (all_fails _ _ _ c.loop-i-test.true (search rules))

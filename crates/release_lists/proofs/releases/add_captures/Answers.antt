@@ -1,40 +1,8 @@
--- `add_captures` meets its contract: after i turns the first i captures are added.
-use Prim.Native.Nat.{◌<◌}
-use mathlib.Core.Path.{◌≡◌, sym, ap, ◌∙◌}
-use lib.ListN.{length}
-use lib.Seq.{take-length}
-use Rattle.lists.specs.Tables.{entries_of, packed}
+-- The table of the list has 512 places.
+use Rattle.std.proofs.Common.{◌≤◌, ap, arith, length, rules}
+use Rattle.lists.proofs.TableLaws.{few}
 use Rattle.release_lists.specs.Captures.{capture_list}
-use Rattle.maps.proofs.BindingLaws.{few}
-use Rattle.release_lists.proofs.CaptureLaws.{few_captures}
-use Rattle.release_lists.specs.Releases.{releases}
-use Rattle.release_lists.proofs.ReleaseLaws.{entries_are, packed_self, add_none, add_turn, add_room}
-use native.Mathlib.Omega.{arith}
 use Rattle.release_lists.proofs.releases.add_captures.Goals as goal
 
-pub loop-i-init : goal.loop-i-init
-loop-i-init c = (
-  omega arith,
-  omega (arith, few_captures c.args.list c.well_formed.1.0),
-  packed_self releases _ _ c.of_presses-next.ensures ∙ ap (packed releases) (sym (add_none _)),
-  omega (arith, ap length (entries_are releases _ _ c.of_presses-next.ensures), few c.args.presses c.well_formed.0),
-)
-
-pub add-next-requires : goal.add-next-requires
-add-next-requires c =
-    let a = c.args in
-    let l = c.loop-i in
-    let within : l.i < length (entries_of capture_list a.list) = omega arith in
-    record { self_value = packed_self releases _ _ l.invariant.2; self_len_bound = omega (arith, ap length (entries_are releases _ _ l.invariant.2), add_room capture_list a.list l.i capture_list.blank within (entries_of releases c.of_presses-next.result) l.invariant.3 (omega arith)) }
-
-pub loop-i-preserved : goal.loop-i-preserved
-loop-i-preserved c =
-    let a = c.args in
-    let l = c.loop-i in
-    let within : l.i < length (entries_of capture_list a.list) = omega arith in
-    (omega arith, omega arith, c.add-next.ensures ∙ rw (entries_are releases _ _ l.invariant.2) (ap (packed releases) (add_turn capture_list a.list l.i _ within _)), l.invariant.3)
-
-pub returns : goal.returns
-returns c =
-    let i-is : c.loop-i.i ≡ length (entries_of capture_list c.args.list) = omega arith in
-    c.loop-i.invariant.2 ∙ rw (i-is, take-length, entries_are releases _ _ c.of_presses-next.ensures)
+pub add_all-requires : goal.add_all-requires
+add_all-requires c = rw c.entries.ensures (few capture_list c.args.list (search rules))

@@ -4,4 +4,4 @@ use Rattle.replay.proofs.lines.first_session.Goals as goal
 
 pub returns : goal.returns
 unfolding first_session
-returns c = rw c.first_counter-counter.ensures
+returns c = rw c.first_counter.ensures

@@ -5,4 +5,4 @@ use Rattle.script.specs.Words.{later_words}
 use Rattle.script.proofs.line.parse.Given as goal
 
 abbrev pub invariant-loop-word : goal.invariant-loop-word
-invariant-loop-word l = Gathering (later_words l.line) (words_left l.word-iterator) l.fields.numbers l.fields.count
+invariant-loop-word l = Gathering (later_words l.line) (words_left l.word-iterator) l.fields.items l.fields.len

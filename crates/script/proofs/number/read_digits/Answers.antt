@@ -10,9 +10,6 @@ pub returns-in_err-n : goal.returns-in_err-n
 unfolding digits_of
 returns-in_err-n c = c.from_residual.ensures ∙ sym (c.loop-b.invariant ∙ digit_stops _ _ _ c.loop-b-test.true (sym c.in_err-n.ensures))
 
-pub loop-b-preserved : goal.loop-b-preserved
-loop-b-preserved c = c.loop-b.invariant ∙ digit_next _ _ _ c.loop-b-test.true ∙ ap (λ o. foldl push_behind o (drop (c.loop-b.b-index + 1) c.args.s.now)) (sym c.in_ok-n.ensures)
-
 pub returns : goal.returns
 unfolding digits_of
 returns c = sym (c.loop-b.invariant ∙ rw (drop_of_length-le _ c.loop-b-test.false))

@@ -9,9 +9,6 @@ use Rattle.script_calls.proofs.RowLaws.{read_row, letter_next, with_row_is}
 use Rattle.script_calls.specs.Rows.{words, words_of, row_words}
 use Rattle.script_calls.proofs.rows.with_row.Goals as goal
 
-pub loop-k-init : goal.loop-k-init
-loop-k-init c = simp add-zero
-
 pub returns-in_err-words : goal.returns-in_err-words
 returns-in_err-words c =
     let a = c.args in

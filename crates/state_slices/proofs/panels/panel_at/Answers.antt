@@ -3,7 +3,6 @@ use Prim.Native.Nat.{◌+◌, ◌*◌}
 use Rattle.slices.proofs.PartLaws.{part_size}
 use Rattle.state_slices.proofs.PanelLaws.{panel_read, panel_past}
 use native.Mathlib.Omega.{arith}
-use mathlib.Core.Path.{◌∙◌}
 use Rattle.state_slices.specs.Layout.{panels_start, panel_size}
 use Rattle.state_slices.proofs.panels.panel_at.Goals as goal
 
@@ -13,4 +12,4 @@ returns-then-i-lt64 c =
     panel_read a.fixed.now a.i _ _ c.if-i-lt64.true (part_size (panels_start + a.i * panel_size) panel_size) c.panel_from.ensures
 
 pub returns : goal.returns
-returns c = let a = c.args in c.blank.ensures ∙ panel_past a.fixed.now a.i (omega arith)
+returns c = let a = c.args in panel_past a.fixed.now a.i (omega arith)

@@ -1,22 +1,22 @@
--- `records_at` meets its contract: after i turns the records of the first i layers stand.
-use Rattle.records.specs.Layers.{layers as state_layers, records_of}
-use Rattle.handles.specs.Handles.{handle_of}
-use Rattle.lists.specs.Tables.{entries_of}
-use lib.Seq.{take-length}
-use lib.ListN.{length, replicate}
-use Rattle.records.proofs.LayerLaws.{few, record_more}
+-- A table that takes the records of the layers has one at each layer's place.
+use Rattle.std.proofs.Common.{◌+◌, ◌≤◌, ◌∙◌, [], ap, arith, length, map, get_or, rules}
+use lib.ListN.{length-map}
+use Rattle.std.specs.List.{fold}
+use Rattle.lists.specs.Tables.{table, entries_of, packed, pushed_within}
+use Rattle.lists.specs.declared.table.Table.{Table}
+use Rattle.lists.proofs.TableLaws.{few, all_within}
+use Rattle.handles.specs.declared.GenerationalHandle.{GenerationalHandle}
+use Rattle.records.specs.Layers.{layers, records_of}
+use Rattle.records.specs.Surfaces.{no_surface}
+use Rattle.records.specs.declared.surface.SurfaceRecord.{SurfaceRecord}
 use Rattle.state_slices.specs.PanelNumbers.{panels_from}
-use mathlib.Core.Path.{◌≡◌, ap, ◌∙◌}
-use Prim.Native.Nat.{◌<◌}
-use native.Mathlib.Omega.{arith}
 use Rattle.state_slices.proofs.panels.records_at.Goals as goal
 
-pub loop-i-init : goal.loop-i-init
-loop-i-init c = let a = c.args in (omega arith, omega (arith, few a.layers c.well_formed.1.0, c.count-n.ensures), ap (replicate 16) c.blank-found.ensures)
-
-pub loop-i-preserved : goal.loop-i-preserved
-loop-i-preserved c = let a = c.args in let k = c.loop-i in let within : k.i < length (entries_of state_layers a.layers) = omega (arith, c.count-n.ensures) in (omega arith, omega arith, record_more (panels_from a.fixed.now) a.layers k.i (handle_of 0 0) within (omega (arith, c.count-n.ensures)) k.found _ k.invariant.2 c.panel_at.ensures)
-
 pub returns : goal.returns
-unfolding records_of
-returns c = let a = c.args in let i-is : c.loop-i.i ≡ length (entries_of state_layers a.layers) = omega (arith, c.count-n.ensures) in c.loop-i.invariant.2 ∙ rw (i-is, take-length)
+unfolding records_of packed
+returns c =
+    let a = c.args in
+    let at : GenerationalHandle → SurfaceRecord = λ h. get_or (panels_from a.fixed.now) h.index no_surface in
+    let found = map at (entries_of layers a.layers) in
+    let room : length {A = SurfaceRecord} [] + length found ≤ 16 = omega (arith, length-map (entries_of layers a.layers) at, few layers a.layers (search rules)) in
+    ap (λ (t : Table SurfaceRecord 16). t.items) (c.record_table.ensures ∙ ap (λ l. fold (pushed_within (table 16 no_surface)) (packed (table 16 no_surface) []) (map at l)) c.entries.ensures ∙ all_within (table 16 no_surface) [] found room)

@@ -4,11 +4,7 @@ use Rattle.maps.specs.Captures.{captures}
 use Rattle.lists.specs.Lists.{pad}
 use Rattle.slices.specs.Parts.{table}
 use mathlib.Core.Path.{◌≡◌}
-use Prim.Native.Nat.{◌≤◌, ◌-◌}
 use Rattle.state_slices.proofs.views.captures_from.Given as goal
 
 abbrev pub invariant-loop-i : goal.invariant-loop-i
-invariant-loop-i l = (l.i ≤ l.n) × (l.n ≤ 32) × (l.entries ≡ pad 32 captures.blank (table (capture_at l.m) l.i))
-
-abbrev pub decreases-loop-i : goal.decreases-loop-i
-decreases-loop-i l = l.n - l.i
+invariant-loop-i l = l.items ≡ pad 32 captures.blank (table (capture_at l.m) l.i)

@@ -4,11 +4,7 @@ use Rattle.records.specs.Layers.{layers}
 use Rattle.lists.specs.Lists.{pad}
 use Rattle.slices.specs.Parts.{table}
 use mathlib.Core.Path.{◌≡◌}
-use Prim.Native.Nat.{◌≤◌, ◌-◌}
 use Rattle.state_slices.proofs.views.layers_from.Given as goal
 
 abbrev pub invariant-loop-i : goal.invariant-loop-i
-invariant-loop-i l = (l.i ≤ l.n) × (l.n ≤ 16) × (l.items ≡ pad 16 layers.blank (table (layer_at l.b) l.i))
-
-abbrev pub decreases-loop-i : goal.decreases-loop-i
-decreases-loop-i l = l.n - l.i
+invariant-loop-i l = l.items ≡ pad 16 layers.blank (table (layer_at l.b) l.i)

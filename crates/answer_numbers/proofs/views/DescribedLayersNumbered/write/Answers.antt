@@ -16,9 +16,3 @@ pub loop-layer-preserved : goal.loop-layer-preserved
 loop-layer-preserved c =
     place_written (described_numbers c.args.self.now.surfaces.now) _ c.loop-layer.layer-index _ (plain _) _ c.loop-layer-test.true c.loop-layer.invariant
     (rw c.descriptor.ensures at c.write-in-loop-layer-2.ensures ∙ ap (written _) c.write-in-loop-layer.ensures ∙ written_both _ _ _)
-
-pub returns : goal.returns
-unfolding entries_of
-returns c =
-    let last : c.loop-layer.layer-index ≡ length c.front-layers.result.now = omega arith in
-    simp (c.loop-layer.invariant, last, c.front-layers.ensures, take-length)

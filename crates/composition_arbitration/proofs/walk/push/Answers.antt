@@ -1,8 +1,0 @@
--- `push` meets its contract: one place is set, and the count rises by 1.
-use mathlib.Core.Path.{refl}
-use Rattle.lists.specs.Tables.{pushed}
-use Rattle.composition_arbitration.proofs.walk.push.Goals as goal
-
-pub returns : goal.returns
-unfolding pushed
-returns c = refl

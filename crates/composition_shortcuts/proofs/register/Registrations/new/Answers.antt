@@ -1,8 +1,0 @@
--- `Registrations::new` meets its contract: the table of an empty list is all blanks.
-use mathlib.Core.Path.{refl}
-use Rattle.lists.specs.Tables.{packed}
-use Rattle.composition_shortcuts.proofs.register.Registrations.new.Goals as goal
-
-pub returns : goal.returns
-unfolding packed
-returns c = refl

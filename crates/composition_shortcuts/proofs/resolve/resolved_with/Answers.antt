@@ -1,8 +1,0 @@
--- `resolved_with` meets its contract, by the cases of the outcome.
-use Rattle.composition_shortcuts.proofs.resolve.resolved_with.Goals as goal
-
-pub returns-in-Accepted : goal.returns-in-Accepted
-returns-in-Accepted c = rw c.in-Accepted.is
-
-pub returns-in-Refused : goal.returns-in-Refused
-returns-in-Refused c = rw c.in-Refused.is

@@ -1,5 +1,0 @@
--- `of_report` meets its contract: the parts of the answer that the call has, and blanks for the others.
-use Rattle.counter.proofs.answer.Answer.of_report.Goals as goal
-
-pub returns : goal.returns
-returns c = rw c.nothing-listed.ensures

@@ -1,5 +1,0 @@
--- `input_call` meets its contract: the call, with the parts of its answer.
-use Rattle.counter.proofs.step.input_call.Goals as goal
-
-pub returns : goal.returns
-returns c = rw (c.from_registry.ensures, c.input_step.ensures)

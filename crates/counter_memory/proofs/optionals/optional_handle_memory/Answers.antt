@@ -1,8 +1,0 @@
--- `optional_handle_memory` meets its contract, by its two cases.
-use Rattle.counter_memory.proofs.optionals.optional_handle_memory.Goals as goal
-
-pub returns-in-None : goal.returns-in-None
-returns-in-None c = rw c.in-None.is
-
-pub returns-in-Some : goal.returns-in-Some
-returns-in-Some c = rw c.in-Some.is

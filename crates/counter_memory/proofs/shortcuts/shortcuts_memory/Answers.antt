@@ -1,5 +1,0 @@
--- `shortcuts_memory` meets its contract: its entries are converted, the rest is copied.
-use Rattle.counter_memory.proofs.shortcuts.shortcuts_memory.Goals as goal
-
-pub returns : goal.returns
-returns c = rw c.entries_memory.ensures

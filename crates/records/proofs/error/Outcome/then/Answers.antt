@@ -1,5 +1,0 @@
--- `Outcome::then` meets its contract, by the cases of the first outcome.
-use Rattle.records.proofs.error.Outcome.then.Goals as goal
-
-pub returns-in-Refused : goal.returns-in-Refused
-returns-in-Refused c = simp c.in-Refused.is

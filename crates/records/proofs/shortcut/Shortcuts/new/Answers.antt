@@ -1,8 +1,0 @@
--- `Shortcuts::new` meets its contract: the table of an empty list is all blanks.
-use mathlib.Core.Path.{refl}
-use Rattle.lists.specs.Tables.{packed}
-use Rattle.records.proofs.shortcut.Shortcuts.new.Goals as goal
-
-pub returns : goal.returns
-unfolding packed
-returns c = refl

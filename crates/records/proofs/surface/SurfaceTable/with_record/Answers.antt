@@ -1,5 +1,0 @@
--- `SurfaceTable::with_record` meets its contract: one record is set.
-use Rattle.records.proofs.surface.SurfaceTable.with_record.Goals as goal
-
-pub returns : goal.returns
-returns c = rw c.set_record-changed.ensures
