@@ -31,7 +31,7 @@ fn put_arbitration(arbitration: &ArbitrationResult, line: &mut Line<'_>)
 
 // The captures that a call lists, or else the releases of its report.
 #[tactic(auto, unfolding(crate::specs::Columns::releases_column))]
-fn put_releases(listed: &Releases, captures: &CaptureList, line: &mut Line<'_>)
+pub fn put_releases(listed: &Releases, captures: &CaptureList, line: &mut Line<'_>)
     ensures { line.new ≡ extended (releases_column listed.now captures.now) line.old }
 {
     let held = captures.entries();

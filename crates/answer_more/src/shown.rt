@@ -44,7 +44,7 @@ pub fn put_shown(
         Shown::Counts(counts) => put_numbers(out, at, kind, &ShownCounts(&counts)),
         Shown::BindingCount(n) => put_numbers(out, at, kind, &n),
         Shown::Hits(given) => {
-            let hits = view_hits(registry, given.view, given.point);
+            let hits = view_hits(&registry, given.view, given.point);
             put_numbers(out, at, kind, &hits)
         }
         Shown::Local(local) => put_numbers(out, at, kind, &local),

@@ -2,7 +2,7 @@
 use Rattle.std.specs.Prelude.{Ok, Err}
 use Rattle.records.specs.Errors.{Outcome}
 use Rattle.composition_shortcuts.specs.Resolve.{resolved_outcome}
-use mathlib.Core.Path.{◌≡◌, ap, ◌∙◌}
+use mathlib.Core.Path.{◌≡◌, refl, ap, ◌∙◌}
 use Rattle.handles.specs.declared.GenerationalHandle.{GenerationalHandle}
 use Rattle.records.specs.declared.error.CompositionError.{CompositionError}
 use Rattle.composition_state.specs.declared.registry.CompositionRegistry.{CompositionRegistry}
@@ -11,9 +11,10 @@ use Rattle.records.specs.declared.trace.CompositionTrace.{CompositionTrace}
 use Rattle.records.specs.Traces.{Hits}
 use Rattle.composition_state.specs.Damage.{damage_refusal}
 use Rattle.composition_state.specs.Registry.{advanced}
+use Rattle.composition_arbitration.specs.declared.arbitrate.Decision.{Decision}
 use Rattle.composition_arbitration.specs.Arbitration.{Arbitrated}
 use Rattle.composition_arbitration.specs.Arbitration.{TakingPart, everyone, own_hits, resolution_among, arbitration_among, arbitrate_refusal, next_revision, trace_of, concluded, arbitrated_among, arbitrated}
-use Rattle.composition_arbitration.specs.Decisions.{decided_with, decided_among, decided, result_of, kept_in}
+use Rattle.composition_arbitration.specs.Decisions.{decision_with, decided_with, decided_among, decision, decided, accepted_trace, result_of, kept_in}
 use Rattle.composition_arbitration.proofs.CallClaimLaws.{accepted_value, refused_value, room}
 
 -- the two answers
@@ -32,7 +33,7 @@ module _ (part : TakingPart) (r : CompositionRegistry) (view : GenerationalHandl
 
   pub accepted_among : (t : CompositionTrace) → decided_among part (damage_refusal r) r view event h ≡ Ok t
       → arbitrated_among part r view event h ≡ accepted_with r t
-  unfolding concluded decided_with advanced
+  unfolding concluded decision_with decided_with advanced
   accepted_among t q =
       let m = accepted_value refusal trace t q in
       let kept : arbitrated_among part r view event h ≡ accepted_with r trace =
@@ -40,8 +41,20 @@ module _ (part : TakingPart) (r : CompositionRegistry) (view : GenerationalHandl
       kept ∙ ap (accepted_with r) m.1
 
   pub refused_among : (e : CompositionError) → decided_among part (damage_refusal r) r view event h ≡ Err e → arbitrated_among part r view event h ≡ refused_by e r
-  unfolding concluded decided_with
+  unfolding concluded decision_with decided_with
   refused_among e q = rw (refused_value refusal trace e q)
+
+-- the trace of a decision that refuses nothing, and the refusal of another
+pub accepts : (d : Decision) → d.outcome ≡ Ok tt → accepted_trace d ≡ Ok d.trace
+accepts d h = rw h
+
+pub refuses : (d : Decision) (e : CompositionError) → d.outcome ≡ Err e → accepted_trace d ≡ Err e
+refuses d e h = rw h
+
+-- a decision on everyone says what is decided
+pub same_decision : (damage : Outcome) (r : CompositionRegistry) (view : GenerationalHandle) (event : ArbitrationEvent) (h : Hits) → accepted_trace (decision damage r view event h) ≡ decided damage r view event h
+unfolding decision decided decided_with
+same_decision damage r view event h = refl
 
 module _ (r : CompositionRegistry) (view : GenerationalHandle) (event : ArbitrationEvent) (h : Hits) where
   pub accepted : (t : CompositionTrace) → decided (damage_refusal r) r view event h ≡ Ok t → arbitrated r view event h ≡ accepted_with r t

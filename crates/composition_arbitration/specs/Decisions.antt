@@ -15,23 +15,41 @@ use Rattle.view_panels.specs.Panels.{Panel}
 use Rattle.composition_state.specs.Registry.{with_traces, with_revision}
 use Rattle.composition_shortcuts.specs.Resolve.{Resolved, resolved_outcome, resolved_panel}
 use Rattle.composition_arbitration.specs.declared.arbitrate.ArbitrationResult.{ArbitrationResult}
+use Rattle.composition_arbitration.specs.declared.arbitrate.Decision.{Decision}
 use Rattle.composition_arbitration.specs.Arbitration.{TakingPart, everyone, own_hits, refusal_after, resolution_among, arbitration_over, next_revision, trace_of}
 use Rattle.composition_arbitration.specs.Trace.{traced}
 
--- the refusal, and the trace that an accepted call keeps: by what the damage test and the view refuse, the revision,
--- the view's record, the panels that take part, and what was resolved
+-- the refusal, and the trace that an accepted call keeps, which stands beside a refusal too: by what the damage test and
+-- the view refuse, the revision, the view's record, the panels that take part, and what was resolved
+unfoldable pub decision_with : Outcome → Outcome → ℕ → ViewRecord → List Panel → Resolved → GenerationalHandle
+    → ArbitrationEvent → Hits → Decision
+decision_with damage unknown revision v panels resolved view event h =
+    record {
+      outcome = refusal_after damage unknown revision (own_hits event h) (resolved_outcome resolved);
+      trace =
+          trace_of (next_revision revision) view event (own_hits event h)
+          (arbitration_over v panels (resolved_panel resolved) event h);
+    }
+
+-- the trace that is kept, or the refusal
+abbrev pub accepted_trace : Decision → Result CompositionTrace CompositionError
+accepted_trace d = result_and d.outcome (Ok d.trace)
+
 unfoldable pub decided_with : Outcome → Outcome → ℕ → ViewRecord → List Panel → Resolved → GenerationalHandle
     → ArbitrationEvent → Hits → Result CompositionTrace CompositionError
 decided_with damage unknown revision v panels resolved view event h =
-    result_and (refusal_after damage unknown revision (own_hits event h) (resolved_outcome resolved))
-    (Ok (trace_of (next_revision revision) view event (own_hits event h)
-    (arbitration_over v panels (resolved_panel resolved) event h)))
+    accepted_trace (decision_with damage unknown revision v panels resolved view event h)
 
 -- what an accepted call answers
 abbrev pub result_of : CompositionTrace → ArbitrationResult
 result_of t = record { revision = t.revision; deliveries = t.deliveries; consumed_by = t.consumed_by }
 
 -- ---- in a registry
+unfoldable pub decision : Outcome → CompositionRegistry → GenerationalHandle → ArbitrationEvent → Hits → Decision
+decision damage r view event h =
+    decision_with damage (view_refusal r.views view) r.revision (view_at r.views view) (everyone r view).panels
+    (resolution_among (everyone r view) r view event) view event h
+
 abbrev pub decided_among : TakingPart → Outcome → CompositionRegistry → GenerationalHandle → ArbitrationEvent → Hits
     → Result CompositionTrace CompositionError
 decided_among part damage r view event h =

@@ -3,8 +3,10 @@ ghost use Rattle.std.specs.Prelude.{◌≡◌};
 ghost use Rattle.lists.specs.Tables.{entries_of};
 ghost use Rattle.records.specs.Shortcuts.{shortcuts as stored};
 ghost use Rattle.composition_state.specs.Registry.{with_traces, with_revision};
-ghost use Rattle.composition_arbitration.specs.Arbitration.{is_stack, own_hits, hits_refusal, resolution_of, alone, or_alone, walk_in, next_revision, trace_of, arbitrated};
-ghost use Rattle.composition_arbitration.specs.Decisions.{decided, result_of};
+ghost use Rattle.view_panels.specs.Panels.{standing};
+ghost use Rattle.composition_shortcuts.specs.Resolve.{resolved_outcome};
+ghost use Rattle.composition_arbitration.specs.Arbitration.{is_stack, own_hits, hits_refusal, resolution_of, alone, or_alone, walk_over, next_revision, refusal_after, trace_of, arbitrated};
+ghost use Rattle.composition_arbitration.specs.Decisions.{decision_with, decision, accepted_trace, result_of};
 
 use crate::targets::choose;
 use crate::trace::push_trace;
@@ -16,8 +18,8 @@ use records::error::{CompositionError, Outcome, refuse_if};
 use records::shortcut::Shortcuts;
 use records::surface::SurfaceTable;
 use records::trace::{ArbitrationEvent, CompositionTrace, Deliveries, Hits, InputDelivery, Traces};
-use records::view::ViewTable;
-use view_panels::gather;
+use records::view::{ViewRecord, ViewTable};
+use view_panels::{ViewPanels, gather};
 
 #[derive(Clone, Copy)]
 pub struct ArbitrationResult {
@@ -84,34 +86,21 @@ fn alone(surface: GenerationalHandle) -> Walked
     }
 }
 
-// The walk over the panels of a view, aimed by the view's record.
-#[tactic(auto, using(view_panels::proofs::PanelLaws::standing_gathered), unfolding(crate::specs::Arbitration::walk_over))]
-fn walk_in(
-    registry: CompositionRegistry,
-    view: GenerationalHandle,
-    event: ArbitrationEvent,
-    hits: Hits,
-) -> Walked
-    ensures { result ≡ walk_in registry view event hits }
-{
-    let record = registry.views.record(view);
-    let panels = gather(&registry.surfaces.records, record.surfaces);
-    walk_layers(panels, choose(event, record), hits)
-}
-
-// Who gets an event, and who takes it: a winner alone, and else those whom the walk reaches.
+// Who gets an event, and who takes it: a winner alone, and else those whom the walk over the panels reaches, aimed by
+// the view's record.
+#[tactic(auto, unfolding(crate::specs::Arbitration::walk_over))]
 fn reach(
-    registry: CompositionRegistry,
-    view: GenerationalHandle,
+    state: ViewRecord,
+    panels: ViewPanels,
     event: ArbitrationEvent,
     hits: Hits,
     winner: Option<GenerationalHandle>,
 ) -> Walked
-    ensures { result ≡ or_alone winner (walk_in registry view event hits) }
+    ensures { result ≡ or_alone winner (walk_over state (standing panels) event hits) }
 {
     match winner {
         Some(surface) => alone(surface),
-        None => walk_in(registry, view, event, hits),
+        None => walk_layers(panels, choose(event, state), hits),
     }
 }
 
@@ -141,35 +130,95 @@ pub fn trace_of(
     }
 }
 
-// The trace of an event in a registry that is tested for damage, or its refusal, before anything is written. 21 comes
-// before any change here, unlike in the other calls.
-#[tactic(auto, unfolding(crate::specs::Decisions::decided, crate::specs::Decisions::decided_with))]
-pub fn decide(
+// 21 comes before any change here, unlike in the other calls.
+fn arbitrate_refusal(
     damage: Outcome,
-    registry: CompositionRegistry,
+    unknown: Outcome,
+    revision: u64,
+    hits: Hits,
+    resolved: Resolved,
+) -> Outcome
+    ensures { result ≡ refusal_after damage unknown revision hits (resolved_outcome resolved) }
+{
+    damage?;
+    unknown?;
+    hits_refusal(hits)?;
+    resolved?;
+    refuse_if(revision == u64::MAX, CompositionError::RevisionExhausted)
+}
+
+// What is decided of an event before anything is written: its refusal, and the trace of it. No Result: the trace stands
+// beside a refusal too.
+#[derive(Clone, Copy)]
+pub struct Decision {
+    pub outcome: Outcome,
+    pub trace: CompositionTrace,
+}
+
+impl Decision {
+    // The trace that is kept, or why the call is refused.
+    pub fn accepted_trace(self) -> Result<CompositionTrace, CompositionError>
+        ensures { result ≡ accepted_trace self }
+    {
+        self.outcome.and(Ok(self.trace))
+    }
+}
+
+// Who gets the event, and whether the call is refused: by what the damage test and the view's handle refuse, the
+// registry's revision, the view's record, the panels that take part, and what was resolved.
+#[tactic(auto, unfolding(crate::specs::Decisions::decision_with))]
+pub fn decide_with(
+    damage: Outcome,
+    unknown: Outcome,
+    revision: u64,
+    state: ViewRecord,
+    panels: ViewPanels,
+    resolved: Resolved,
     view: GenerationalHandle,
     event: ArbitrationEvent,
     hits: Hits,
-) -> Result<CompositionTrace, CompositionError>
-    ensures { result ≡ decided damage registry view event hits }
+) -> Decision
+    ensures { result ≡ decision_with damage unknown revision state (standing panels) resolved view event hits }
 {
-    damage?;
-    registry.views.refusal(view)?;
     let own = own_hits(event, hits);
-    hits_refusal(own)?;
-    let winner = resolve(
+    let walked = reach(state, panels, event, own, resolved.unwrap_or(None));
+    Decision {
+        outcome: arbitrate_refusal(damage, unknown, revision, own, resolved),
+        trace: trace_of(next_revision(revision), view, event, own, walked),
+    }
+}
+
+// The same in a registry, once it is tested for damage: everyone takes part.
+#[tactic(auto, using(view_panels::proofs::PanelLaws::standing_gathered), unfolding(crate::specs::Decisions::decision))]
+pub fn decide(
+    damage: Outcome,
+    registry: &CompositionRegistry,
+    view: GenerationalHandle,
+    event: ArbitrationEvent,
+    hits: Hits,
+) -> Decision
+    ensures { result ≡ decision damage registry.now view event hits }
+{
+    let state = registry.views.record(view);
+    let panels = gather(&registry.surfaces.records, state.surfaces);
+    let resolved = resolve(
         registry.views,
         registry.surfaces,
         registry.shortcuts,
         view,
         event,
-    )?;
-    refuse_if(
-        registry.revision == u64::MAX,
-        CompositionError::RevisionExhausted,
-    )?;
-    let walked = reach(registry, view, event, own, winner);
-    Ok(trace_of(next_revision(registry.revision), view, event, own, walked))
+    );
+    decide_with(
+        damage,
+        registry.views.refusal(view),
+        registry.revision,
+        state,
+        panels,
+        resolved,
+        view,
+        event,
+        hits,
+    )
 }
 
 // The answer of an accepted arbitration.
@@ -207,18 +256,18 @@ pub fn arbitrate(
 ) -> Arbitrated
     ensures { result ≡ arbitrated registry view event hits }
 {
-    match decide(registry.damage(), registry, view, event, hits) {
-        Ok(trace) => {
-            let limit = registry.limits.max_trace_entries;
-            let traces = push_trace(registry.traces, limit, trace);
-            Answered {
-                outcome: Ok(result_of(trace)),
-                registry: with_traces_at(registry, traces, trace.revision),
-            }
-        }
-        Err(error) => Answered {
+    let decision = decide(registry.damage(), &registry, view, event, hits);
+    if let Err(error) = decision.outcome {
+        return Answered {
             outcome: Err(error),
             registry,
-        },
+        };
+    }
+    let trace = decision.trace;
+    let limit = registry.limits.max_trace_entries;
+    let traces = push_trace(registry.traces, limit, trace);
+    Answered {
+        outcome: Ok(result_of(trace)),
+        registry: with_traces_at(registry, traces, trace.revision),
     }
 }

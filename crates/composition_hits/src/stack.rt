@@ -41,8 +41,8 @@ fn fill(panels: ViewPanels, point: Point, buffer: &mut [u64]) -> usize
     at
 }
 
-pub fn layers_of(views: ViewTable, view: GenerationalHandle) -> Layers
-    ensures { result ≡ layers_of views view }
+pub fn layers_of(views: &ViewTable, view: GenerationalHandle) -> Layers
+    ensures { result ≡ layers_of views.now view }
 {
     views.record(view).surfaces
 }
@@ -72,7 +72,7 @@ pub fn hit_test_into(
     ensures written { buffer.new ≡ buffer_after registry view point buffer.old }
 {
     hit_test_refusal(registry, view, buffer.len())?;
-    let panels = gather(&registry.surfaces.records, layers_of(registry.views, view));
+    let panels = gather(&registry.surfaces.records, layers_of(&registry.views, view));
     Ok(fill(panels, point, buffer))
 }
 

@@ -28,9 +28,9 @@ pub fn list_hits(panels: ViewPanels, point: Point) -> Hits
 
 // The panels under a point of a view, topmost first. The caller has tested the registry and the view.
 #[tactic(auto, using(view_panels::proofs::PanelLaws::standing_gathered), unfolding(crate::specs::HitTest::view_hits))]
-pub fn view_hits(registry: CompositionRegistry, view: GenerationalHandle, point: Point) -> Hits
-    ensures { result ≡ packed state_hits (view_hits registry view point) }
+pub fn view_hits(registry: &CompositionRegistry, view: GenerationalHandle, point: Point) -> Hits
+    ensures { result ≡ packed state_hits (view_hits registry.now view point) }
 {
-    let panels = gather(&registry.surfaces.records, layers_of(registry.views, view));
+    let panels = gather(&registry.surfaces.records, layers_of(&registry.views, view));
     list_hits(panels, point)
 }

@@ -51,7 +51,7 @@ resolved_is (Ok _) w v e = cc
 resolved_is (Err x) w v e = cc
 
 -- an option by its cases, with the case at hand
-by_option : {P : Type 0} (g : Option Candidate) → (g ≡ None → P) → ((b : Candidate) → g ≡ Some b → P) → P
+pub by_option : {P : Type 0} (g : Option Candidate) → (g ≡ None → P) → ((b : Candidate) → g ≡ Some b → P) → P
 by_option None f s = f refl
 by_option (Some b) f s = s b refl
 

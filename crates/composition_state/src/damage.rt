@@ -46,20 +46,20 @@ fn all_sound(traces: &[CompositionTrace]) -> bool
 }
 
 #[tactic(auto, unfolding(crate::specs::Damage::traces_sound))]
-fn are_traces_sound(limit: u64, stored: Traces) -> bool
-    ensures { result ≡ traces_sound limit stored }
+fn are_traces_sound(limit: u64, stored: &Traces) -> bool
+    ensures { result ≡ traces_sound limit stored.now }
 {
     stored.len as u64 <= limit && all_sound(stored.entries())
 }
 
 #[tactic(auto, unfolding(crate::specs::Damage::layers_sound))]
 fn are_layers_sound(
-    surfaces: SurfaceTable,
+    surfaces: &SurfaceTable,
     limit: u64,
     view: GenerationalHandle,
-    v: ViewRecord,
+    v: &ViewRecord,
 ) -> bool
-    ensures { result ≡ layers_sound surfaces limit view v }
+    ensures { result ≡ layers_sound surfaces.now limit view v.now }
 {
     v.surfaces.len as u64 <= limit
         && are_layers_of(v.surfaces, surfaces, view)
@@ -69,12 +69,12 @@ fn are_layers_sound(
 #[tactic(auto, unfolding(crate::specs::Damage::view_sound))]
 fn is_view_sound(
     windows: Arena,
-    surfaces: SurfaceTable,
+    surfaces: &SurfaceTable,
     limit: u64,
     view: GenerationalHandle,
-    v: ViewRecord,
+    v: &ViewRecord,
 ) -> bool
-    ensures { result ≡ view_sound windows surfaces limit view v }
+    ensures { result ≡ view_sound windows surfaces.now limit view v.now }
 {
     matches!(handles::arena::lookup(windows, v.window), SlotStatus::Live)
         && are_layers_sound(surfaces, limit, view, v)
@@ -85,13 +85,13 @@ fn is_view_sound(
 // A slot that is not filled holds no view.
 fn is_slot_sound(
     windows: Arena,
-    surfaces: SurfaceTable,
+    surfaces: &SurfaceTable,
     limit: u64,
-    views: ViewTable,
+    views: &ViewTable,
     i: usize,
 ) -> bool
     requires { i < 16 }
-    ensures { result ≡ slot_sound windows surfaces limit views i }
+    ensures { result ≡ slot_sound windows surfaces.now limit views.now i }
 {
     let slot = handles::arena::slot_at(views.arena.slots, i);
     if !slot.filled {
@@ -101,13 +101,13 @@ fn is_slot_sound(
         index: i as u32,
         generation: slot.generation,
     };
-    is_view_sound(windows, surfaces, limit, view, views.record(view))
+    is_view_sound(windows, surfaces, limit, view, &views.records[i])
 }
 
 #[tactic(auto, unfolding(crate::specs::Damage::views_sound))]
-fn are_views_sound(windows: Arena, surfaces: SurfaceTable, limit: u64, views: ViewTable) -> bool
-    requires { views.arena.used ≤ 16 }
-    ensures { result ≡ views_sound windows surfaces limit views }
+fn are_views_sound(windows: Arena, surfaces: &SurfaceTable, limit: u64, views: &ViewTable) -> bool
+    requires { views.now.arena.used ≤ 16 }
+    ensures { result ≡ views_sound windows surfaces.now limit views.now }
 {
     for i in 0..views.arena.used {
         if !is_slot_sound(windows, surfaces, limit, views, i) {
@@ -120,8 +120,8 @@ fn are_views_sound(windows: Arena, surfaces: SurfaceTable, limit: u64, views: Vi
 impl CompositionRegistry {
     // Whether a registry passes the damage test; one that does not is refused 42 by every call.
     #[tactic(auto, using(crate::proofs::DamageLaws::views_within), unfolding(crate::specs::Damage::is_sound))]
-    pub fn is_sound(self) -> bool
-        ensures { result ≡ is_sound self }
+    pub fn is_sound(&self) -> bool
+        ensures { result ≡ is_sound self.now }
     {
         if !are_limits_sound(self.limits, self.first_generation) {
             return false;
@@ -135,18 +135,18 @@ impl CompositionRegistry {
             return false;
         }
         self.shortcuts.len <= 256
-            && are_traces_sound(self.limits.max_trace_entries, self.traces)
+            && are_traces_sound(self.limits.max_trace_entries, &self.traces)
             && are_views_sound(
                 self.windows,
-                self.surfaces,
+                &self.surfaces,
                 self.limits.max_surfaces_per_view,
-                self.views,
+                &self.views,
             )
     }
 
     // What every call refuses first.
-    pub fn damage(self) -> Outcome
-        ensures { result ≡ damage_refusal self }
+    pub fn damage(&self) -> Outcome
+        ensures { result ≡ damage_refusal self.now }
     {
         records::error::refuse_if(!self.is_sound(), CompositionError::Damaged)
     }

@@ -56,10 +56,13 @@ impl<T: Copy> Answered<T> {
     }
 
     // Whether it is accepted, or why it is refused, without the value.
-    pub fn refusal(self) -> Outcome
-        ensures { result ≡ outcome_of self }
+    pub fn refusal(&self) -> Outcome
+        ensures { result ≡ outcome_of self.now }
     {
-        self.outcome.and(Ok(()))
+        match self.outcome {
+            Ok(_) => Ok(()),
+            Err(error) => Err(error),
+        }
     }
 }
 

@@ -8,7 +8,7 @@ use composition_arbitration::arbitrate::ArbitrationResult;
 use composition_close::answer::{CompositionShutdownReport, SurfaceCloseReport};
 use handles::GenerationalHandle;
 use input_events::error::{RouterOutcome, from_composition};
-use input_releases::answer::{PlatformInputRoutingReport, no_report};
+use input_releases::answer::{PlatformInputRoutingReport, RouteKind, no_report, no_result};
 use records::error::Outcome;
 use release_lists::captures::CaptureList;
 use release_lists::releases::Releases;
@@ -50,7 +50,8 @@ impl Listed {
     {
         Self {
             captures,
-            ..Self::nothing()
+            closed: SurfaceCloseReport::blank(),
+            shutdown: CompositionShutdownReport::blank(),
         }
     }
 
@@ -59,8 +60,9 @@ impl Listed {
         ensures { result ≡ close_listed closed }
     {
         Self {
+            captures: CaptureList::new(),
             closed,
-            ..Self::nothing()
+            shutdown: CompositionShutdownReport::blank(),
         }
     }
 
@@ -69,8 +71,9 @@ impl Listed {
         ensures { result ≡ shutdown_listed shutdown }
     {
         Self {
+            captures: CaptureList::new(),
+            closed: SurfaceCloseReport::blank(),
             shutdown,
-            ..Self::nothing()
         }
     }
 }
@@ -81,8 +84,11 @@ pub fn of_arbitration(arbitration: ArbitrationResult) -> PlatformInputRoutingRep
     ensures { result ≡ arbitration_alone arbitration }
 {
     PlatformInputRoutingReport {
+        kind: RouteKind::Nothing,
         arbitration,
-        ..no_report()
+        synthesized_releases: Releases::new(),
+        view_release: None,
+        composition_revision: 0,
     }
 }
 
@@ -92,8 +98,11 @@ pub fn of_releases(synthesized_releases: Releases) -> PlatformInputRoutingReport
     ensures { result ≡ releases_alone synthesized_releases }
 {
     PlatformInputRoutingReport {
+        kind: RouteKind::Nothing,
+        arbitration: no_result(),
         synthesized_releases,
-        ..no_report()
+        view_release: None,
+        composition_revision: 0,
     }
 }
 

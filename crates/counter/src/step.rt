@@ -1,7 +1,11 @@
 // `step`: any call of the port on any counter.
 ghost use Rattle.std.specs.Prelude.{◌≡◌};
 ghost use Rattle.composition_arbitration.specs.Arbitration.{arbitrated};
-ghost use Rattle.composition_input.specs.Captures.{release_device_pointer_captures};
+ghost use Rattle.std.specs.Result.{result_unwrap_or};
+ghost use Rattle.composition_close.specs.Close.{closed_report};
+ghost use Rattle.composition_close.specs.Shutdown.{shutdown_report};
+ghost use Rattle.composition_input.specs.Captures.{listed_captures, release_device_pointer_captures};
+ghost use Rattle.input_releases.specs.Answers.{no_result};
 ghost use Rattle.read_step.specs.Reads.{read_step};
 ghost use Rattle.registry_step.specs.Steps.{panel_step, input_step, shortcut_step};
 ghost use Rattle.counter.specs.Step.{stepped_to, from_registry, from_captures, from_arbitrated, from_closed, from_shutdown, from_routed, from_released, from_read, close_step, router_step, stepped};
@@ -12,7 +16,7 @@ use calls::call::{
     Call, CloseCall, InputCall, Lists, PanelCall, ReadCall, RouterCall, ShortcutCall,
 };
 use calls::shown::Shown;
-use composition_arbitration::arbitrate::{Arbitrated, arbitrate};
+use composition_arbitration::arbitrate::{Arbitrated, ArbitrationResult, arbitrate};
 use composition_close::answer::{
     CompositionShutdownReport, Shutdown, SurfaceCloseReport, SurfaceClosed,
 };
@@ -67,13 +71,50 @@ fn from_registry(stepped: RegistryStepped, router: PlatformInputRouter) -> Stepp
     )
 }
 
+// What is listed beside a refusal is blank, and is made only there.
+fn listed_captures(released: &CapturesReleased) -> CaptureList
+    ensures { result ≡ listed_captures released.now }
+{
+    match released.outcome {
+        Ok(list) => list,
+        Err(_) => CaptureList::new(),
+    }
+}
+
+fn arbitration_of(arbitrated: &Arbitrated) -> ArbitrationResult
+    ensures { result ≡ result_unwrap_or arbitrated.now.outcome no_result }
+{
+    match arbitrated.outcome {
+        Ok(done) => done,
+        Err(_) => no_result(),
+    }
+}
+
+fn closed_report(closed: &SurfaceClosed) -> SurfaceCloseReport
+    ensures { result ≡ closed_report closed.now }
+{
+    match closed.outcome {
+        Ok(report) => report,
+        Err(_) => SurfaceCloseReport::blank(),
+    }
+}
+
+fn shutdown_report(done: &Shutdown) -> CompositionShutdownReport
+    ensures { result ≡ shutdown_report done.now }
+{
+    match done.outcome {
+        Ok(report) => report,
+        Err(_) => CompositionShutdownReport::blank(),
+    }
+}
+
 fn from_captures(released: CapturesReleased, router: PlatformInputRouter) -> Stepped
     ensures { result ≡ from_captures released router }
 {
     stepped_to(
         Answer::of_listing(
             released.refusal(),
-            Listed::of_captures(released.outcome.unwrap_or(CaptureList::new())),
+            Listed::of_captures(listed_captures(&released)),
         ),
         released.registry,
         router,
@@ -86,7 +127,7 @@ fn from_arbitrated(arbitrated: Arbitrated, router: PlatformInputRouter) -> Stepp
     stepped_to(
         Answer::of_report(
             from_composition(arbitrated.refusal()),
-            of_arbitration(arbitrated.outcome.unwrap_or(no_result())),
+            of_arbitration(arbitration_of(&arbitrated)),
         ),
         arbitrated.registry,
         router,
@@ -97,10 +138,7 @@ fn from_closed(closed: SurfaceClosed, router: PlatformInputRouter) -> Stepped
     ensures { result ≡ from_closed closed router }
 {
     stepped_to(
-        Answer::of_listing(
-            closed.refusal(),
-            Listed::of_close(closed.outcome.unwrap_or(SurfaceCloseReport::blank())),
-        ),
+        Answer::of_listing(closed.refusal(), Listed::of_close(closed_report(&closed))),
         closed.registry,
         router,
     )
@@ -110,10 +148,7 @@ fn from_shutdown(done: Shutdown, router: PlatformInputRouter) -> Stepped
     ensures { result ≡ from_shutdown done router }
 {
     stepped_to(
-        Answer::of_listing(
-            done.refusal(),
-            Listed::of_shutdown(done.outcome.unwrap_or(CompositionShutdownReport::blank())),
-        ),
+        Answer::of_listing(done.refusal(), Listed::of_shutdown(shutdown_report(&done))),
         done.registry,
         router,
     )
@@ -155,12 +190,14 @@ fn from_read(counter: Counter, done: Result<Shown, CompositionError>) -> Stepped
 fn close_step(counter: Counter, call: CloseCall) -> Stepped
     ensures { result ≡ close_step counter call }
 {
+    // Each arm returns: an answer in which arms join is written and copied once more.
     match call {
-        CloseCall::CloseSurface(surface) => from_closed(
-            close_surface(counter.registry, surface),
-            counter.router,
-        ),
-        CloseCall::Shutdown => from_shutdown(shutdown(counter.registry), counter.router),
+        CloseCall::CloseSurface(surface) => {
+            return from_closed(close_surface(counter.registry, surface), counter.router);
+        }
+        CloseCall::Shutdown => {
+            return from_shutdown(shutdown(counter.registry), counter.router);
+        }
     }
 }
 
@@ -170,13 +207,17 @@ fn close_step(counter: Counter, call: CloseCall) -> Stepped
 pub fn router_step(counter: Counter, call: RouterCall) -> Stepped
     ensures { result ≡ router_step counter call }
 {
+    // Each arm returns, as in `close_step`.
     match call {
-        RouterCall::Route(event) => from_routed(route(counter.registry, counter.router, event)),
-        RouterCall::ReleaseSurface(surface) => from_released(
-            counter.registry,
-            counter.router.release_surface(surface),
-        ),
-        RouterCall::ReleaseAll => from_released(counter.registry, counter.router.release_all()),
+        RouterCall::Route(event) => {
+            return from_routed(route(counter.registry, counter.router, event));
+        }
+        RouterCall::ReleaseSurface(surface) => {
+            return from_released(counter.registry, counter.router.release_surface(surface));
+        }
+        RouterCall::ReleaseAll => {
+            return from_released(counter.registry, counter.router.release_all());
+        }
     }
 }
 
@@ -239,14 +280,31 @@ fn read_call(counter: Counter, call: ReadCall) -> Stepped
 pub fn step(counter: Counter, call: Call, lists: Lists) -> Stepped
     ensures { result ≡ stepped counter call lists }
 {
+    // Each arm returns, as in `close_step`.
     match call {
-        Call::Panel(which) => panel_call(counter, which),
-        Call::Input(which) => input_call(counter, which),
-        Call::ReleaseDevice(given) => device_call(counter, given),
-        Call::Shortcut(which) => shortcut_call(counter, which, lists.registrations),
-        Call::Arbitrate(given) => arbitrate_call(counter, given, lists.hits),
-        Call::Close(which) => close_step(counter, which),
-        Call::Router(which) => router_step(counter, which),
-        Call::Read(which) => read_call(counter, which),
+        Call::Panel(which) => {
+            return panel_call(counter, which);
+        }
+        Call::Input(which) => {
+            return input_call(counter, which);
+        }
+        Call::ReleaseDevice(given) => {
+            return device_call(counter, given);
+        }
+        Call::Shortcut(which) => {
+            return shortcut_call(counter, which, lists.registrations);
+        }
+        Call::Arbitrate(given) => {
+            return arbitrate_call(counter, given, lists.hits);
+        }
+        Call::Close(which) => {
+            return close_step(counter, which);
+        }
+        Call::Router(which) => {
+            return router_step(counter, which);
+        }
+        Call::Read(which) => {
+            return read_call(counter, which);
+        }
     }
 }

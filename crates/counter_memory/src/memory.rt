@@ -1,10 +1,13 @@
-// The counter: the memory that a host owns, and the counter that it is read as.
+// The counter: the memory that a host owns, and the counter that it is read as. A part is converted by `from` of its
+// type: `into` would copy it once more.
 ghost use Rattle.std.specs.Prelude.{◌≡◌};
 ghost use Rattle.counter_memory.specs.Memory.{memory_of, counter_of};
 
 use crate::registry::RegistryMemory;
 use crate::router::RouterMemory;
+use composition_state::registry::CompositionRegistry;
 use counter::step::Counter;
+use input_router::router::PlatformInputRouter;
 
 #[repr(C)]
 #[derive(Clone, Copy)]
@@ -18,8 +21,8 @@ impl From<Counter> for CounterMemory {
 
     fn from(counter: Counter) -> Self {
         Self {
-            registry: counter.registry.into(),
-            router: counter.router.into(),
+            registry: RegistryMemory::from(counter.registry),
+            router: RouterMemory::from(counter.router),
         }
     }
 }
@@ -30,8 +33,8 @@ impl From<CounterMemory> for Counter {
 
     fn from(memory: CounterMemory) -> Self {
         Self {
-            registry: memory.registry.into(),
-            router: memory.router.into(),
+            registry: CompositionRegistry::from(memory.registry),
+            router: PlatformInputRouter::from(memory.router),
         }
     }
 }

@@ -12,6 +12,10 @@ use crate::views::ViewTableMemory;
 use composition_state::registry::{CompositionLimits, CompositionRegistry};
 use handles::GenerationalHandle;
 use handles::arena::Arena;
+use records::shortcut::Shortcuts;
+use records::surface::SurfaceTable;
+use records::trace::Traces;
+use records::view::ViewTable;
 
 #[repr(C)]
 #[derive(Clone, Copy)]
@@ -39,10 +43,10 @@ impl From<CompositionRegistry> for RegistryMemory {
             first_generation: registry.first_generation,
             revision: registry.revision,
             windows: registry.windows,
-            views: registry.views.into(),
-            surfaces: registry.surfaces.into(),
-            shortcuts: registry.shortcuts.into(),
-            traces: registry.traces.into(),
+            views: ViewTableMemory::from(registry.views),
+            surfaces: SurfaceTableMemory::from(registry.surfaces),
+            shortcuts: ShortcutsMemory::from(registry.shortcuts),
+            traces: TracesMemory::from(registry.traces),
         }
     }
 }
@@ -58,10 +62,10 @@ impl From<RegistryMemory> for CompositionRegistry {
             first_generation: memory.first_generation,
             revision: memory.revision,
             windows: memory.windows,
-            views: memory.views.into(),
-            surfaces: memory.surfaces.into(),
-            shortcuts: memory.shortcuts.into(),
-            traces: memory.traces.into(),
+            views: ViewTable::from(memory.views),
+            surfaces: SurfaceTable::from(memory.surfaces),
+            shortcuts: Shortcuts::from(memory.shortcuts),
+            traces: Traces::from(memory.traces),
         }
     }
 }

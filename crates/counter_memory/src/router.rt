@@ -8,6 +8,7 @@ ghost use Rattle.counter_memory.specs.Router.{router_memory, router_of};
 use crate::bindings::BindingsMemory;
 use input_router::router::PlatformInputRouter;
 use lists::table::Table;
+use maps::bindings::Bindings;
 use maps::sequences::{DeviceSequence, DeviceSequences};
 
 // A struct of its own, since C hands in no table with parameters.
@@ -39,7 +40,7 @@ impl From<PlatformInputRouter> for RouterMemory {
                 entries,
                 len: router.device_sequences.table.len,
             },
-            bindings: router.bindings.into(),
+            bindings: BindingsMemory::from(router.bindings),
         }
     }
 }
@@ -58,7 +59,7 @@ impl From<RouterMemory> for PlatformInputRouter {
                     len: memory.device_sequences.len,
                 },
             },
-            bindings: memory.bindings.into(),
+            bindings: Bindings::from(memory.bindings),
         }
     }
 }

@@ -82,7 +82,7 @@ impl From<SurfaceRecord> for SurfaceRecordMemory {
             z_order: descriptor.z_order,
             input: descriptor.input as u8,
             accepts_text: descriptor.accepts_text,
-            geometry: descriptor.geometry.into(),
+            geometry: SurfaceGeometryMemory::from(descriptor.geometry),
         }
     }
 }
@@ -98,7 +98,7 @@ impl From<SurfaceRecordMemory> for SurfaceRecord {
                 z_order: memory.z_order,
                 input: SurfaceInputPolicy::from_number(u64::from(memory.input)),
                 accepts_text: memory.accepts_text,
-                geometry: memory.geometry.into(),
+                geometry: SurfaceGeometry::from(memory.geometry),
             },
         }
     }

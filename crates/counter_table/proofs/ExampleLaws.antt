@@ -18,7 +18,7 @@ use Rattle.composition_input.specs.Focus.{set_focus}
 use Rattle.composition_shortcuts.specs.Claims.{Observing}
 use Rattle.composition_shortcuts.specs.OwnView.{own_view_refusal}
 use Rattle.composition_arbitration.specs.Arbitration.{own_hits, resolution_of, alone, walk_over, concluded, arbitrated}
-use Rattle.composition_arbitration.specs.Decisions.{decided_with, decided}
+use Rattle.composition_arbitration.specs.Decisions.{decision_with, decided_with, decided}
 use Rattle.composition_arbitration.specs.Layers.{verdict_of, until_consumed, consumer_of, walk_of}
 use Rattle.composition_arbitration.specs.Targets.{chosen, is_targeted}
 use Rattle.composition_arbitration.specs.Trace.{traced}
@@ -54,7 +54,7 @@ holding = record {
 }
 
 pub examples : CounterExamples
-unfolding all_below count_below iter_below entries_of packed pushed empty_arena lookup_of has_room allocated released counts_within occurrences_of well_formed is_hit is_valid_geometry solved layer_lt records_of arenas_sound traces_sound layers_sound view_sound views_sound is_sound advanced fresh_registry attached attach_surface create_window create_view capture_pointer_for set_focus own_view_refusal own_hits resolution_of alone walk_over concluded arbitrated decided_with decided verdict_of until_consumed consumer_of walk_of chosen is_targeted traced detached freed close_settled close_surface had_capture topmost detached_view hits_among view_hits arbitration_event_in needs_hits point_of is_loss is_disconnect payload_refusal header_refusal_in event_refusal press_in effect_in receiver_of is_router_sound route_refusal hits_for routed_arbitration routed_payload routed lib.Ieee.lt lib.Ieee.sub lib.Ieee.mul lib.Ieee.div lib.Ieee.of_int
+unfolding all_below count_below iter_below entries_of packed pushed empty_arena lookup_of has_room allocated released counts_within occurrences_of well_formed is_hit is_valid_geometry solved layer_lt records_of arenas_sound traces_sound layers_sound view_sound views_sound is_sound advanced fresh_registry attached attach_surface create_window create_view capture_pointer_for set_focus own_view_refusal own_hits resolution_of alone walk_over concluded arbitrated decision_with decided_with decided verdict_of until_consumed consumer_of walk_of chosen is_targeted traced detached freed close_settled close_surface had_capture topmost detached_view hits_among view_hits arbitration_event_in needs_hits point_of is_loss is_disconnect payload_refusal header_refusal_in event_refusal press_in effect_in receiver_of is_router_sound route_refusal hits_for routed_arbitration routed_payload routed lib.Ieee.lt lib.Ieee.sub lib.Ieee.mul lib.Ieee.div lib.Ieee.of_int
 examples = record {
   observing = watching;
   observe_many = (table.observe_panel watched panel_a watching).0 sixty_five refl;

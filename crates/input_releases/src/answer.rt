@@ -39,17 +39,23 @@ pub struct Routed {
 
 impl Routed {
     // Whether it is accepted, or why it is refused, without the report.
-    pub fn refusal(self) -> RouterOutcome
-        ensures { result ≡ routed_outcome self }
+    pub fn refusal(&self) -> RouterOutcome
+        ensures { result ≡ routed_outcome self.now }
     {
-        self.outcome.and(Ok(()))
+        match self.outcome {
+            Ok(_) => Ok(()),
+            Err(error) => Err(error),
+        }
     }
 
     // Its report: a blank one where it is refused.
-    pub fn report(self) -> PlatformInputRoutingReport
-        ensures { result ≡ report_of self }
+    pub fn report(&self) -> PlatformInputRoutingReport
+        ensures { result ≡ report_of self.now }
     {
-        self.outcome.unwrap_or(no_report())
+        match self.outcome {
+            Ok(report) => report,
+            Err(_) => no_report(),
+        }
     }
 }
 

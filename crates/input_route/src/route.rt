@@ -14,10 +14,11 @@ use input_events::arbitration_event::{
 };
 use input_events::event::PlatformInputEvent;
 use input_events::presses::{Effect, effect_of, press_of, receiver};
-use input_releases::answer::{PlatformInputRoutingReport, RouteKind, Routed, no_report, refused};
+use input_releases::answer::{PlatformInputRoutingReport, RouteKind, Routed, refused};
 use input_releases::losses::{route_disconnect, route_loss};
 use input_router::router::PlatformInputRouter;
 use records::trace::Hits;
+use release_lists::releases::Releases;
 
 // The panel that holds the press of an event.
 fn held_for(router: PlatformInputRouter, event: PlatformInputEvent) -> Option<GenerationalHandle>
@@ -28,8 +29,8 @@ fn held_for(router: PlatformInputRouter, event: PlatformInputEvent) -> Option<Ge
 
 // The hits of an event that is aimed by its point.
 #[tactic(auto, unfolding(crate::specs::Route::hits_for))]
-fn hits_for(registry: CompositionRegistry, event: PlatformInputEvent) -> Hits
-    ensures { result ≡ hits_for registry event }
+fn hits_for(registry: &CompositionRegistry, event: PlatformInputEvent) -> Hits
+    ensures { result ≡ hits_for registry.now event }
 {
     if needs_hits(event.payload) {
         view_hits(registry, event.header.view, point_of(event.payload))
@@ -47,7 +48,10 @@ fn track(
     ensures { result ≡ tracked router effect receiver }
 {
     match effect {
-        Effect::Opens(key) => { receiver.map_or(router, |surface| router.opened(key, surface)) }
+        Effect::Opens(key) => match receiver {
+            None => router,
+            Some(surface) => router.opened(key, surface),
+        },
         Effect::Ends(key) => router.ended(key),
         Effect::Nothing => router,
     }
@@ -59,8 +63,9 @@ fn arbitrated_report(res: ArbitrationResult) -> PlatformInputRoutingReport
     PlatformInputRoutingReport {
         kind: RouteKind::Arbitrated,
         arbitration: res,
+        synthesized_releases: Releases::new(),
+        view_release: None,
         composition_revision: res.revision,
-        ..no_report()
     }
 }
 
@@ -78,28 +83,29 @@ fn record_event(router: PlatformInputRouter, event: PlatformInputEvent) -> Platf
 // presses after it. Nothing but the last step makes another registry: each would be a copy.
 #[tactic(auto, unfolding(crate::specs::Route::routed_arbitration))]
 fn route_arbitrated(
-    registry: CompositionRegistry,
+    registry: &CompositionRegistry,
     router: PlatformInputRouter,
     event: PlatformInputEvent,
 ) -> Routed
-    requires { is_sound registry ≡ true }
-    ensures { result ≡ routed_arbitration registry router event }
+    requires { is_sound registry.now ≡ true }
+    ensures { result ≡ routed_arbitration registry.now router event }
 {
     let asked = arbitration_event(event, held_for(router, event));
-    let trace = match decide(
+    let decision = decide(
         Ok(()),
         registry,
         event.header.view,
         asked,
         hits_for(registry, event),
-    ) {
-        Ok(trace) => trace,
-        Err(error) => return refused(error.into(), registry, router),
-    };
+    );
+    if let Err(error) = decision.outcome {
+        return refused(error.into(), *registry, router);
+    }
+    let trace = decision.trace;
     let traces = push_trace(registry.traces, registry.limits.max_trace_entries, trace);
     Routed {
         outcome: Ok(arbitrated_report(result_of(trace))),
-        registry: with_traces_at(registry, traces, trace.revision),
+        registry: with_traces_at(*registry, traces, trace.revision),
         router: track(
             router,
             effect_of(event),
@@ -122,11 +128,12 @@ pub fn route(
         return refused(error, registry, router);
     }
     let recorded = record_event(router, event);
+    // No `else`: an answer in which branches join is written and copied once more.
     if is_disconnect(event.payload) {
-        route_disconnect(registry, recorded, event.header.device)
-    } else if is_loss(event.payload) {
-        route_loss(registry, recorded, event.header.view)
-    } else {
-        route_arbitrated(registry, recorded, event)
+        return route_disconnect(registry, recorded, event.header.device);
     }
+    if is_loss(event.payload) {
+        return route_loss(registry, recorded, event.header.view);
+    }
+    route_arbitrated(&registry, recorded, event)
 }

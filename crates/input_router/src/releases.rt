@@ -19,17 +19,23 @@ pub struct Released {
 
 impl Released {
     // Whether it is accepted, or why it is refused, without the list.
-    pub fn refusal(self) -> RouterOutcome
-        ensures { result ≡ release_outcome self }
+    pub fn refusal(&self) -> RouterOutcome
+        ensures { result ≡ release_outcome self.now }
     {
-        self.outcome.and(Ok(()))
+        match self.outcome {
+            Ok(_) => Ok(()),
+            Err(error) => Err(error),
+        }
     }
 
     // What it lists: nothing where it is refused.
-    pub fn listed(self) -> Releases
-        ensures { result ≡ releases_of self }
+    pub fn listed(&self) -> Releases
+        ensures { result ≡ releases_of self.now }
     {
-        self.outcome.unwrap_or(Releases::new())
+        match self.outcome {
+            Ok(releases) => releases,
+            Err(_) => Releases::new(),
+        }
     }
 }
 

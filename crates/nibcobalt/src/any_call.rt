@@ -6,7 +6,7 @@ use crate::status::{Status, refusal_of};
 use answer_words::answered::put_answer;
 use call_numbers::call::call_at;
 use calls::call::Lists;
-use counter::step::step;
+use counter::step::{Counter, step};
 use counter_memory::memory::CounterMemory;
 use host_message::hits::hits_of;
 use host_message::message::{Message, is_message};
@@ -29,11 +29,11 @@ fn make(memory: CounterMemory, message: Message, answer: &mut [u8]) -> Called
         hits: hits_of(message.hits),
         registrations: registrations_of(message.registrations),
     };
-    let done = step(memory.into(), call, beside);
+    let done = step(Counter::from(memory), call, beside);
     let length = put_answer(answer, call, done.answer, done.counter);
     Called {
         status: Status { number: 0, length },
-        memory: done.counter.into(),
+        memory: CounterMemory::from(done.counter),
         message,
     }
 }

@@ -7,7 +7,7 @@ use answer_words::answered::put_answer;
 use call_forms::call::is_form;
 use call_numbers::events::router_at;
 use calls::call::Call;
-use counter::step::router_step;
+use counter::step::{Counter, router_step};
 use counter_memory::memory::CounterMemory;
 
 #[repr(C)]
@@ -36,11 +36,11 @@ fn make_route(memory: CounterMemory, message: RouteMessage, answer: &mut [u8]) -
         (route_made memory message answer.old) }
 {
     let call = router_at(message.call);
-    let done = router_step(memory.into(), call);
+    let done = router_step(Counter::from(memory), call);
     let length = put_answer(answer, Call::Router(call), done.answer, done.counter);
     RouteCalled {
         status: Status { number: 0, length },
-        memory: done.counter.into(),
+        memory: CounterMemory::from(done.counter),
         message,
     }
 }

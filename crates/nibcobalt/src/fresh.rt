@@ -58,7 +58,7 @@ pub fn start_counter(memory: CounterMemory, start: Start) -> Started
         };
         return Started {
             status,
-            memory: counter.into(),
+            memory: CounterMemory::from(counter),
             start,
         };
     }

@@ -36,11 +36,11 @@ pub fn layer_lt(records: &[SurfaceRecord; 64], a: GenerationalHandle, b: Generat
 }
 
 // Whether a layer is a live panel of a view.
-fn is_layer_of(surfaces: SurfaceTable, view: GenerationalHandle, at: GenerationalHandle) -> bool
-    ensures { result ≡ is_layer_of surfaces view at }
+fn is_layer_of(surfaces: &SurfaceTable, view: GenerationalHandle, at: GenerationalHandle) -> bool
+    ensures { result ≡ is_layer_of surfaces.now view at }
 {
     matches!(handles::arena::lookup(surfaces.arena, at), SlotStatus::Live)
-        && surfaces.descriptor(at).view == view
+        && record_at(&surfaces.records, at).descriptor.view == view
 }
 
 // The layers with a panel in its place, or as they were where there is no room.
@@ -78,8 +78,8 @@ pub fn are_rising(layers: Layers, records: &[SurfaceRecord; 64]) -> bool
 }
 
 // Whether each layer is a live panel of a view.
-pub fn are_layers_of(layers: Layers, surfaces: SurfaceTable, view: GenerationalHandle) -> bool
-    ensures { result ≡ all (is_layer_of surfaces view) (entries_of layer_table layers) }
+pub fn are_layers_of(layers: Layers, surfaces: &SurfaceTable, view: GenerationalHandle) -> bool
+    ensures { result ≡ all (is_layer_of surfaces.now view) (entries_of layer_table layers) }
 {
     layers
         .entries()

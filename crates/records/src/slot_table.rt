@@ -29,8 +29,8 @@ pub struct SlotTable<R, const N: usize> {
 
 impl<R: SlotRecord, const N: usize> SlotTable<R, N> {
     // The record of a handle, by its slot; past the end of the table it is a blank.
-    pub fn record(self, handle: GenerationalHandle) -> R
-        ensures { result ≡ get_or self.records handle.index R.BLANK }
+    pub fn record(&self, handle: GenerationalHandle) -> R
+        ensures { result ≡ get_or self.now.records handle.index R.BLANK }
     {
         item_or(&self.records, handle.index as usize, R::BLANK)
     }
@@ -52,15 +52,15 @@ impl<R: SlotRecord, const N: usize> SlotTable<R, N> {
     }
 
     // How many slots of the table were used: all, where the count is past its end.
-    pub fn slots(self) -> usize
-        ensures { result ≡ cond (ltb self.arena.used N) self.arena.used N }
+    pub fn slots(&self) -> usize
+        ensures { result ≡ cond (ltb self.now.arena.used N) self.now.arena.used N }
     {
         self.arena.used.min(N)
     }
 
     // What a handle that is not live refuses.
-    pub fn refusal(self, handle: GenerationalHandle) -> Outcome
-        ensures { result ≡ status_refusal (lookup_of self.arena handle) R.INVALID R.STALE }
+    pub fn refusal(&self, handle: GenerationalHandle) -> Outcome
+        ensures { result ≡ status_refusal (lookup_of self.now.arena handle) R.INVALID R.STALE }
     {
         refuse_status(
             handles::arena::lookup(self.arena, handle),

@@ -127,8 +127,8 @@ impl SurfaceRecord {
 }
 
 impl SlotTable<SurfaceRecord, 64> {
-    pub fn descriptor(self, surface: GenerationalHandle) -> SurfaceDescriptor
-        ensures { result ≡ descriptor_of self surface }
+    pub fn descriptor(&self, surface: GenerationalHandle) -> SurfaceDescriptor
+        ensures { result ≡ descriptor_of self.now surface }
     {
         self.record(surface).descriptor
     }

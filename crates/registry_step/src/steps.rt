@@ -98,30 +98,47 @@ fn of_suspended(suspended: Suspended) -> RegistryStepped
 pub fn panel_step(registry: CompositionRegistry, call: PanelCall) -> RegistryStepped
     ensures { result ≡ panel_step registry call }
 {
+    // Each arm returns: a registry in which arms join is written and copied once more.
     match call {
-        PanelCall::CreateWindow => of_created(create_window(registry)),
-        PanelCall::CloseWindow(window) => of_changed(close_window(registry, window)),
-        PanelCall::CreateView(window) => of_created(create_view(registry, window)),
-        PanelCall::UpdateViewMetrics(given) => of_metrics(update_view_metrics(
-            registry,
-            given.view,
-            given.update,
-            given.revision,
-        )),
-        PanelCall::CloseView(view) => of_changed(close_view(registry, view)),
-        PanelCall::AttachSurface(descriptor) => of_created(attach_surface(registry, descriptor)),
-        PanelCall::UpdateSurfaceGeometry(given) => of_changed(update_surface_geometry(
-            registry,
-            given.surface,
-            given.geometry,
-            given.revision,
-        )),
-        PanelCall::UpdateSurfaceInputPolicy(given) => of_changed(update_surface_input_policy(
-            registry,
-            given.surface,
-            given.input,
-            given.revision,
-        )),
+        PanelCall::CreateWindow => {
+            return of_created(create_window(registry));
+        }
+        PanelCall::CloseWindow(window) => {
+            return of_changed(close_window(registry, window));
+        }
+        PanelCall::CreateView(window) => {
+            return of_created(create_view(registry, window));
+        }
+        PanelCall::UpdateViewMetrics(given) => {
+            return of_metrics(update_view_metrics(
+                registry,
+                given.view,
+                given.update,
+                given.revision,
+            ));
+        }
+        PanelCall::CloseView(view) => {
+            return of_changed(close_view(registry, view));
+        }
+        PanelCall::AttachSurface(descriptor) => {
+            return of_created(attach_surface(registry, descriptor));
+        }
+        PanelCall::UpdateSurfaceGeometry(given) => {
+            return of_changed(update_surface_geometry(
+                registry,
+                given.surface,
+                given.geometry,
+                given.revision,
+            ));
+        }
+        PanelCall::UpdateSurfaceInputPolicy(given) => {
+            return of_changed(update_surface_input_policy(
+                registry,
+                given.surface,
+                given.input,
+                given.revision,
+            ));
+        }
     }
 }
 

@@ -39,7 +39,7 @@ use Rattle.composition_shortcuts.specs.Register.{register_surface_system_shortcu
 use Rattle.composition_shortcuts.specs.Resolve.{resolve_system_shortcut}
 use Rattle.composition_shortcuts.specs.Scope.{shares_bit, counts}
 use Rattle.composition_arbitration.specs.Arbitration.{own_hits, resolution_of, alone, walk_over, concluded, arbitrated}
-use Rattle.composition_arbitration.specs.Decisions.{decided_with, decided}
+use Rattle.composition_arbitration.specs.Decisions.{decision_with, decided_with, decided}
 use Rattle.composition_arbitration.specs.Layers.{verdict_of, until_consumed, consumer_of, walk_of}
 use Rattle.composition_arbitration.specs.Targets.{chosen, is_targeted}
 use Rattle.composition_arbitration.specs.Trace.{traced}
@@ -99,7 +99,7 @@ unlisted s before x y more q o lost =
     none_is_some (sym q ∙ lost.listed (history before (fresh s)) (entry_of x (call (after before (fresh s)) x).answer) (history [] (call (after before (fresh s)) x).counter) (entry_there before x [] (fresh s)) ∙ o)
 
 pub returns : goal.returns
-unfolding all_below count_below iter_below entries_of packed pushed empty_arena lookup_of has_room allocated released none_exhausted handles_below counts_within occurrences_of well_formed is_valid_metrics is_hit is_valid_geometry solved layer_lt records_of arenas_sound traces_sound layers_sound view_sound views_sound is_sound advanced fresh_registry update_view_metrics attached attach_surface update_surface_geometry update_surface_input_policy create_window is_window_in_use close_window create_view close_view by_panel in_panel_order add_captures capture_pointer_for release_pointer_for release_pointer device_captures device_cleared release_device_pointer_captures set_focus begin_ime end_ime suspend_view_input candidate_of is_less greatest own_view_refusal register_surface_system_shortcut_set resolve_system_shortcut shares_bit counts own_hits resolution_of alone walk_over concluded arbitrated decided_with decided verdict_of until_consumed consumer_of walk_of chosen is_targeted traced detached freed close_settled close_surface had_capture topmost detached_view close_report layer_closed layers_closed view_closed whole_view_closed views_closed window_closed windows_closed shut_down shutdown_of over written hits_among view_hits hit_numbers hit_test buffer_after arbitration_event_in needs_hits point_of is_loss is_disconnect payload_refusal header_refusal_in event_refusal press_in effect_in receiver_of is_router_sound release_surface release_all release_view routed_disconnect suspended_loss routed_loss route_refusal hits_for routed_arbitration routed_payload routed panel_step input_step shortcut_step read_step nothing_listed captures_listed close_listed shutdown_listed arbitration_alone releases_alone close_step router_step stepped home_of with_capture without_captures with_press without_press without_presses payload_change router_change change changed noted_panel noted_input noted_close registered noted note payload_concern router_concern concern panel_put panels_of panel_by_panel concerned_presses concerned_captures then_captures owed_presses owed_captures owed without_concerned after history book_after is_released_next are_released books
+unfolding all_below count_below iter_below entries_of packed pushed empty_arena lookup_of has_room allocated released none_exhausted handles_below counts_within occurrences_of well_formed is_valid_metrics is_hit is_valid_geometry solved layer_lt records_of arenas_sound traces_sound layers_sound view_sound views_sound is_sound advanced fresh_registry update_view_metrics attached attach_surface update_surface_geometry update_surface_input_policy create_window is_window_in_use close_window create_view close_view by_panel in_panel_order add_captures capture_pointer_for release_pointer_for release_pointer device_captures device_cleared release_device_pointer_captures set_focus begin_ime end_ime suspend_view_input candidate_of is_less greatest own_view_refusal register_surface_system_shortcut_set resolve_system_shortcut shares_bit counts own_hits resolution_of alone walk_over concluded arbitrated decision_with decided_with decided verdict_of until_consumed consumer_of walk_of chosen is_targeted traced detached freed close_settled close_surface had_capture topmost detached_view close_report layer_closed layers_closed view_closed whole_view_closed views_closed window_closed windows_closed shut_down shutdown_of over written hits_among view_hits hit_numbers hit_test buffer_after arbitration_event_in needs_hits point_of is_loss is_disconnect payload_refusal header_refusal_in event_refusal press_in effect_in receiver_of is_router_sound release_surface release_all release_view routed_disconnect suspended_loss routed_loss route_refusal hits_for routed_arbitration routed_payload routed panel_step input_step shortcut_step read_step nothing_listed captures_listed close_listed shutdown_listed arbitration_alone releases_alone close_step router_step stepped home_of with_capture without_captures with_press without_press without_presses payload_change router_change change changed noted_panel noted_input noted_close registered noted note payload_concern router_concern concern panel_put panels_of panel_by_panel concerned_presses concerned_captures then_captures owed_presses owed_captures owed without_concerned after history book_after is_released_next are_released books
 returns c =
     record {
       desk = record {

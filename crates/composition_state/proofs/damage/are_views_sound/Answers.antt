@@ -12,9 +12,9 @@ pub returns-then-not-is_slot_sound : goal.returns-then-not-is_slot_sound
 unfolding views_sound
 returns-then-not-is_slot_sound c =
     let a = c.args in
-    sym (all_fails (slot_sound a.windows a.surfaces a.limit a.views) a.views.arena.used c.loop-i.i c.loop-i-test.true (search rules))
+    sym (all_fails (slot_sound a.windows a.surfaces.now a.limit a.views.now) a.views.now.arena.used c.loop-i.i c.loop-i-test.true (search rules))
 
 pub loop-i-preserved : goal.loop-i-preserved
 loop-i-preserved c =
     let a = c.args in
-    all_next (slot_sound a.windows a.surfaces a.limit a.views) c.loop-i.i c.loop-i.invariant (search rules)
+    all_next (slot_sound a.windows a.surfaces.now a.limit a.views.now) c.loop-i.i c.loop-i.invariant (search rules)

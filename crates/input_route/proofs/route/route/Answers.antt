@@ -26,8 +26,8 @@ returns-then-is_loss c =
     let loses = sym c.is_loss.ensures ∙ c.if-is_loss.true in
     c.route_loss.ensures ∙ rw c.record_event-recorded.ensures (sym (lost a.registry a.router a.event passed kept loses))
 
-pub returns-else-is_loss : goal.returns-else-is_loss
-returns-else-is_loss c =
+pub returns : goal.returns
+returns c =
     let a = c.args in
     let is : c.route_refusal.result ≡ checked a.registry a.router a.event = c.route_refusal.ensures ∙ rw c.is_sound.ensures in
     let passed = sym is ∙ c.in_default.is in
